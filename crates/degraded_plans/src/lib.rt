@@ -1,0 +1,2 @@
+//! Plans of a row with a missing slot.
+#![tactic(auto)]

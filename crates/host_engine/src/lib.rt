@@ -1,0 +1,2 @@
+//! Hosts that run jobs.
+#![tactic(auto)]

@@ -1,0 +1,7 @@
+pub mod Names
+pub mod Numbers
+pub mod Cells
+pub mod Replies
+pub mod Fits
+pub mod Steps
+pub mod First

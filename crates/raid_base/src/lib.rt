@@ -1,0 +1,18 @@
+//! What hosts, bays and scripts say.
+#![tactic(auto)]
+
+pub mod cells;
+pub mod jobs;
+pub mod messages;
+pub mod names;
+pub mod numbers;
+pub mod status;
+
+pub use cells::{Cell, Content, Shown};
+pub use jobs::{Cause, Ended, Job, JobEnd, JobResult, PartsFault, Plan, RowPart, Task};
+pub use messages::{
+    Answer, Ask, Call, Entry, Errand, Grant, How, Mode, Note, PutEnd, Reply, Request, Turn,
+};
+pub use names::Name;
+pub use numbers::{BayNo, HostNo, Number, RowNo, Spent};
+pub use status::{Failed, Kind, NoMemory, Status};

@@ -1,0 +1,4 @@
+pub mod Turns
+pub mod RowStates
+pub mod Headline
+pub mod Laws

@@ -1,0 +1,2 @@
+//! Plays over bays and hosts.
+#![tactic(auto)]

@@ -1,0 +1,2 @@
+//! Scripts and their text.
+#![tactic(auto)]

@@ -1,0 +1,2 @@
+//! The serial array.
+#![tactic(auto)]

@@ -1,0 +1,2 @@
+//! Objects, their blocks, and the parts of a job.
+#![tactic(auto)]
