@@ -134,7 +134,7 @@ pub enum Ended {
 }
 
 /// Some units of one row: the set bits of the mask, and the place of their blocks in the job.
-#[derive(Clone, Copy, Debug, PartialEq, Eq)]
+#[derive(Clone, Copy, Debug, Default, PartialEq, Eq)]
 pub struct RowPart {
     pub row: RowNo,
     pub mask: u16,
