@@ -5,7 +5,11 @@ ghost use Rattle.std.specs.Prelude.{◌≡◌, ℕ, ◌∷◌, ◌<◌};
 ghost use Rattle.raid_xor.specs.Sums.{sum_of};
 ghost use Rattle.degraded_plans.specs.Missing.{missing_of};
 
+pub use kinds::{RowKind, kind};
 pub use raid_base::Cell;
+
+pub mod kinds;
+
 use raid_xor::xor_into;
 use row_plans::has_unit;
 
