@@ -1,20 +1,19 @@
 -- The bays in a play of a smallest script.
-use Rattle.std.proofs.Common.{◌≡◌, ℕ, ◌<◌, ◌≤◌, ◌^◌, ◌==◌, max, nat_le, nat_lt, Bool, true, false, List, [], ◌∷◌, Option, Some, None, refl, arith}
+use Rattle.std.proofs.Common.{◌≡◌, ℕ, ◌<◌, ◌==◌, max, nat_le, nat_lt, true, false, [], ◌∷◌, Some, None, refl, arith}
 use Rattle.std.proofs.lemmas.Bool.Decides.{nat_tests}
 use Rattle.raid_base.specs.declared.numbers.HostNo.{HostNo}
 use Rattle.raid_base.specs.declared.numbers.Number.{Number}
 use Rattle.raid_base.specs.declared.cells.Cell.{Cell}
 use Rattle.raid_base.specs.declared.messages.Mode.TheVariants.{Order}
 use Rattle.raid_base.specs.declared.messages.How.TheVariants.{Plain}
-use Rattle.raid_base.specs.declared.messages.Note.{Note}
 use Rattle.raid_base.specs.declared.messages.Request.TheVariants.{Share, Claim, Confirm, Put}
 use Rattle.raid_base.specs.declared.messages.Reply.TheVariants.{Granted, Held, Done}
 use Rattle.raid_base.specs.declared.messages.Request.{Request}
 use Rattle.raid_base.specs.declared.messages.Ask.{Ask}
 use Rattle.raid_base.specs.Cells.{zero_cell}
-use Rattle.raid_base.specs.Numbers.{number, greater}
-use Rattle.slot_rules.specs.Slots.{Slot, Bay, first_slot, first_bay}
-use Rattle.slot_rules.specs.Rules.{Outcome, rule}
+use Rattle.raid_base.specs.Numbers.{number}
+use Rattle.slot_rules.specs.Slots.{Slot, Bay, first_slot}
+use Rattle.slot_rules.specs.Rules.{rule}
 use Rattle.schedule_play.specs.FirstForm.{only_row}
 
 not_at_most_zero : (i : ℕ) → 0 < i → nat_le i 0 ≡ false
@@ -45,8 +44,12 @@ fresh patience = one_slot patience first_slot (number 0)
 -- claimed by the write with this mask at this moment
 abbrev pub claimed : HostNo → ℕ → ℕ → ℕ → ℕ → Bay
 claimed host patience i mask moment = one_slot patience (record {
-  cell = Some zero_cell; read_no = number 0; write_no = number 0; last = number 0;
-  note = Some (record { host = host; id = number i; origin = number i; mask = mask; moment = moment }); readers = [];
+  cell = Some zero_cell;
+  read_no = number 0;
+  write_no = number 0;
+  last = number 0;
+  note = Some (record { host = host; id = number i; origin = number i; mask = mask; moment = moment });
+  readers = [];
 }) (number 0)
 
 -- with the cell that the write has put

@@ -1,9 +1,8 @@
 -- The calls of a play of a smallest script, and where its host stands between them.
-use Rattle.std.proofs.Common.{◌≡◌, ℕ, ◌+◌, ◌^◌, ◌==◌, max, Bool, true, false, List, [], ◌∷◌, ◌++◌, Option, Some, None, refl, ap, ◌∙◌}
-use Rattle.std.specs.Prelude.{Result, Ok, Err}
+use Rattle.std.proofs.Common.{◌≡◌, ℕ, ◌+◌, ◌^◌, ◌==◌, max, Bool, true, false, List, [], ◌∷◌, Some, None, refl, ap, ◌∙◌}
+use Rattle.std.specs.Prelude.{Ok}
 use Rattle.raid_base.specs.declared.numbers.HostNo.{HostNo}
 use Rattle.raid_base.specs.declared.numbers.BayNo.{BayNo}
-use Rattle.raid_base.specs.declared.numbers.RowNo.{RowNo}
 use Rattle.raid_base.specs.declared.numbers.Number.{Number}
 use Rattle.raid_base.specs.declared.names.Name.{Name}
 use Rattle.raid_base.specs.declared.cells.Cell.{Cell}
@@ -20,8 +19,6 @@ use Rattle.raid_base.specs.declared.jobs.Job.{Job}
 use Rattle.raid_base.specs.declared.jobs.JobEnd.TheVariants as ends
 use Rattle.raid_base.specs.declared.cells.Content.TheVariants.{Bytes}
 use Rattle.raid_base.specs.declared.jobs.RowPart.{RowPart}
-use Rattle.raid_base.specs.declared.jobs.PartsFault.{PartsFault}
-use Rattle.raid_base.specs.declared.numbers.Spent.{Spent}
 use Rattle.raid_base.specs.Cells.{zero_cell, plain_cell}
 use Rattle.raid_base.specs.Numbers.{number, draw}
 use Rattle.raid_base.specs.Steps.{Steps, settled}
@@ -31,7 +28,7 @@ use Rattle.attempts.specs.Reading.{read_steps}
 use Rattle.attempts.specs.Writing.{write_steps}
 use Rattle.slot_rules.specs.Slots.{first_bay}
 use Rattle.script_text.specs.Script.{Script, host_numbers, jobs_of, parts_of, blocks_of}
-use Rattle.host_engine.specs.Progress.{Progress, Sent, Work, Trying, Over, Ending, access, attempt, read_of, write_of, placed, one_more, try_with, try_parts, start_jobs, at_start, takes, asks, is_over}
+use Rattle.host_engine.specs.Progress.{Progress, Trying, Over, Ending, access, attempt, read_of, write_of, placed, one_more, try_with, try_parts, start_jobs, at_start, takes, asks, is_over}
 use Rattle.schedule_play.specs.FirstForm.{only_row, first_write, first_read}
 use Rattle.schedule_play.proofs.OneHost.{call_of}
 
@@ -104,8 +101,16 @@ module _ (script : Script) (h : ℕ) (name : Name) (block : List ℕ) (i j : ℕ
   -- where the host stands at the start of its write, and after each call of it
   pub at_write : Bool → Progress
   at_write f = record {
-    jobs = first_write (first_no f) name ∷ first_read (first_no f) name ∷ []; asked = 0; tries = 1; row = 0; gone = None; seen = number i; clock = 0;
-    work = Trying (write_steps (job_access f i (block ∷ []))); calls = []; endings = [];
+    jobs = first_write (first_no f) name ∷ first_read (first_no f) name ∷ [];
+    asked = 0;
+    tries = 1;
+    row = 0;
+    gone = None;
+    seen = number i;
+    clock = 0;
+    work = Trying (write_steps (job_access f i (block ∷ [])));
+    calls = [];
+    endings = [];
   }
 
   unfoldable pub after_1 : Bool → Progress
@@ -126,26 +131,51 @@ module _ (script : Script) (h : ℕ) (name : Name) (block : List ℕ) (i j : ℕ
   -- what is known of the write, and of the read
   abbrev pub write_ending : Bool → Ending
   write_ending f = record {
-    job = first_write (first_no f) name; ended = ends.Wrote (number i); contents = []; asked = 6; tries = 1;
+    job = first_write (first_no f) name;
+    ended = ends.Wrote (number i);
+    contents = [];
+    asked = 6;
+    tries = 1;
     calls = put_parity f ∷ put_unit f ∷ confirm_parity f ∷ claim_unit f ∷ share_other f ∷ claim_parity f ∷ [];
   }
 
   abbrev pub read_ending : Bool → Ending
   read_ending f = record {
-    job = first_read (first_no f) name; ended = ends.Read (number j); contents = Bytes block ∷ []; asked = 1; tries = 1; calls = share_unit f ∷ [];
+    job = first_read (first_no f) name;
+    ended = ends.Read (number j);
+    contents = Bytes block ∷ [];
+    asked = 1;
+    tries = 1;
+    calls = share_unit f ∷ [];
   }
 
   -- between its jobs
   abbrev pub between : Bool → Progress
   between f = record {
-    jobs = first_read (first_no f) name ∷ []; asked = 0; tries = 0; row = 0; gone = None; seen = number (seen_no i); clock = 6;
-    work = Over; calls = []; endings = write_ending f ∷ [];
+    jobs = first_read (first_no f) name ∷ [];
+    asked = 0;
+    tries = 0;
+    row = 0;
+    gone = None;
+    seen = number (seen_no i);
+    clock = 6;
+    work = Over;
+    calls = [];
+    endings = write_ending f ∷ [];
   }
 
   pub at_read : Bool → Progress
   at_read f = record {
-    jobs = first_read (first_no f) name ∷ []; asked = 0; tries = 1; row = 0; gone = None; seen = number j; clock = 6;
-    work = Trying (read_steps (job_access f j [])); calls = []; endings = write_ending f ∷ [];
+    jobs = first_read (first_no f) name ∷ [];
+    asked = 0;
+    tries = 1;
+    row = 0;
+    gone = None;
+    seen = number j;
+    clock = 6;
+    work = Trying (read_steps (job_access f j []));
+    calls = [];
+    endings = write_ending f ∷ [];
   }
 
   unfoldable pub at_end : Bool → Progress
@@ -244,7 +274,7 @@ module _ (script : Script) (h : ℕ) (f : Bool) (name : Name) (block : List ℕ)
   -- the attempts that a host makes of these jobs
   begins : (job : Job) (jobs : List Job) (task : Task) (p : Progress) (id : ℕ) (steps : Steps Finish) →
       ((q : Progress) → start_jobs script (host_of h) (job ∷ jobs) q
-        ≡ try_parts script (host_of h) task (start_jobs script (host_of h) jobs) q (parts_of script name (first_no f) 1)) →
+      ≡ try_parts script (host_of h) task (start_jobs script (host_of h) jobs) q (parts_of script name (first_no f) 1)) →
       draw (host_of h) p.seen ≡ Ok (number id) →
       attempt script (host_of h) (number id) p.row task ≡ steps →
       start_jobs script (host_of h) (job ∷ jobs) p ≡ placed (one_more p) (settled (host_of h) (number id) steps)
@@ -268,17 +298,34 @@ module _ (script : Script) (h : ℕ) (f : Bool) (name : Name) (block : List ℕ)
   write_begins drawn =
       ap (λ (jobs : List Job). start_jobs script (host_of h) jobs (record { jobs = jobs; asked = 0; tries = 0; row = 0; gone = None; seen = number 0; clock = 0; work = Over; calls = []; endings = [] })) given.jobs
       ∙ begins (first_write (first_no f) name) (first_read (first_no f) name ∷ []) (tasks.Write name (first_no f) 0 1)
-        (record { jobs = first_write (first_no f) name ∷ first_read (first_no f) name ∷ []; asked = 0; tries = 0; row = 0; gone = None; seen = number 0; clock = 0; work = Over; calls = []; endings = [] })
-        i (write_steps (job_access f i (block ∷ []))) (λ q. refl) drawn write_attempt
+      (record { jobs = first_write (first_no f) name ∷ first_read (first_no f) name ∷ []; asked = 0; tries = 0; row = 0; gone = None; seen = number 0; clock = 0; work = Over; calls = []; endings = [] })
+      i (write_steps (job_access f i (block ∷ []))) (λ q. refl) drawn write_attempt
       ∙ settles f
     where
       settles : (f : Bool) →
           placed (record {
-            jobs = first_write (first_no f) name ∷ first_read (first_no f) name ∷ []; asked = 0; tries = 1; row = 0; gone = None; seen = number 0; clock = 0; work = Over; calls = []; endings = [];
+            jobs = first_write (first_no f) name ∷ first_read (first_no f) name ∷ [];
+            asked = 0;
+            tries = 1;
+            row = 0;
+            gone = None;
+            seen = number 0;
+            clock = 0;
+            work = Over;
+            calls = [];
+            endings = [];
           }) (settled (host_of h) (number i) (write_steps (job_access f i (block ∷ []))))
           ≡ record {
-            jobs = first_write (first_no f) name ∷ first_read (first_no f) name ∷ []; asked = 0; tries = 1; row = 0; gone = None; seen = number i; clock = 0;
-            work = Trying (write_steps (job_access f i (block ∷ []))); calls = []; endings = [];
+            jobs = first_write (first_no f) name ∷ first_read (first_no f) name ∷ [];
+            asked = 0;
+            tries = 1;
+            row = 0;
+            gone = None;
+            seen = number i;
+            clock = 0;
+            work = Trying (write_steps (job_access f i (block ∷ [])));
+            calls = [];
+            endings = [];
           }
       settles false = refl
       settles true = refl
@@ -293,8 +340,16 @@ module _ (script : Script) (h : ℕ) (f : Bool) (name : Name) (block : List ℕ)
       settles : (f : Bool) →
           placed (one_more (between script h name block i j f)) (settled (host_of h) (number j) (read_steps (job_access f j [])))
           ≡ record {
-            jobs = first_read (first_no f) name ∷ []; asked = 0; tries = 1; row = 0; gone = None; seen = number j; clock = 6;
-            work = Trying (read_steps (job_access f j [])); calls = []; endings = write_ending script h name block i j f ∷ [];
+            jobs = first_read (first_no f) name ∷ [];
+            asked = 0;
+            tries = 1;
+            row = 0;
+            gone = None;
+            seen = number j;
+            clock = 6;
+            work = Trying (read_steps (job_access f j []));
+            calls = [];
+            endings = write_ending script h name block i j f ∷ [];
           }
       settles false = refl
       settles true = refl

@@ -1,16 +1,13 @@
 -- What the proofs use of a smallest script, and the numbers that its host draws.
-use Rattle.std.proofs.Common.{◌≡◌, ℕ, zero, suc, ◌+◌, ◌*◌, ◌/◌, ◌%◌, ◌^◌, ◌<◌, ◌==◌, max, nat_lt, Bool, true, false, List, [], ◌∷◌, cond, refl, sym, ap, ◌∙◌, arith}
-use Rattle.std.specs.Prelude.{Result, Ok, ok_or, if◌then◌else◌}
+use Rattle.std.proofs.Common.{◌≡◌, ℕ, zero, suc, ◌+◌, ◌/◌, ◌%◌, ◌^◌, ◌<◌, nat_lt, Bool, true, false, List, [], ◌∷◌, refl, ap, ◌∙◌, arith}
+use Rattle.std.specs.Prelude.{Ok, ok_or}
 use Rattle.std.proofs.lemmas.Bool.Decides.{nat_tests}
 use Rattle.std.proofs.lemmas.Cmp.{nat_list_eq_equiv}
-use Rattle.raid_base.specs.declared.numbers.HostNo.{HostNo}
 use Rattle.raid_base.specs.declared.names.Name.{Name}
-use Rattle.raid_base.specs.declared.jobs.RowPart.{RowPart}
-use Rattle.raid_base.specs.declared.jobs.PartsFault.{PartsFault}
 use Rattle.raid_base.specs.Names.{is_text}
 use Rattle.raid_base.specs.Numbers.{number, draw, least_above, below_end}
-use Rattle.script_text.specs.Script.{Script, parts_of, jobs_of}
-use Rattle.schedule_play.specs.FirstForm.{first_script, first_write, first_read}
+use Rattle.script_text.specs.Script.{parts_of}
+use Rattle.schedule_play.specs.FirstForm.{first_script}
 use Rattle.schedule_play.proofs.FirstBays.{same_number}
 use Rattle.schedule_play.proofs.FirstCalls.{Given, host_of, first_no, part, seen_no}
 use Rattle.schedule_play.proofs.FirstPlay.{Numbers}
@@ -39,21 +36,27 @@ least_second h less =
 
 pub draws_two : (h : ℕ) → h < 16 → (i : ℕ) × ((j : ℕ) × Numbers h i j)
 draws_two zero less = (16, (32, record { positive = omega arith; rises = omega arith; first_drawn = refl; second_drawn = refl }))
-draws_two (suc k) less = (suc k, (suc k + 16, record {
-  positive = omega arith;
-  rises = omega arith;
-  first_drawn = draws_least (suc k) 0 (suc k) (least_first (suc k) (omega arith)) (omega arith);
-  second_drawn = draws_least (suc k) (seen_no (suc k)) (suc k + 16) (ap (least_above (suc k)) (seen_is (suc k)) ∙ least_second (suc k) less) (omega arith);
-}))
+draws_two (suc k) less = (
+  suc k,
+  (
+    suc k + 16,
+    record {
+      positive = omega arith;
+      rises = omega arith;
+      first_drawn = draws_least (suc k) 0 (suc k) (least_first (suc k) (omega arith)) (omega arith);
+      second_drawn = draws_least (suc k) (seen_no (suc k)) (suc k + 16) (ap (least_above (suc k)) (seen_is (suc k)) ∙ least_second (suc k) less) (omega arith);
+    },
+  ),
+)
 
 -- Texts
-pub same_text : (name : Name) → is_text name name ≡ true
-same_text name = nat_list_eq_equiv.refl name
+pub same_name : (name : Name) → is_text name name ≡ true
+same_name name = nat_list_eq_equiv.refl name
 
 module _ (h : ℕ) (name : Name) (block : List ℕ) (patience tries : ℕ) where
   first_parts : (f : Bool) → parts_of (first_script h (first_no f) name block patience tries) name (first_no f) 1 ≡ Ok (part f ∷ [])
-  first_parts false = rw (same_text name) refl
-  first_parts true = rw (same_text name) refl
+  first_parts false = rw (same_name name) refl
+  first_parts true = rw (same_name name) refl
 
   pub gives : (f : Bool) → Given (first_script h (first_no f) name block patience tries) h f name block patience
   gives f = record {

@@ -1,5 +1,5 @@
 -- The play of a smallest script: its seven calls, and what its host and bays are after each.
-use Rattle.std.proofs.Common.{◌≡◌, ℕ, ◌<◌, ◌^◌, ◌==◌, Bool, true, false, List, [], ◌∷◌, Option, Some, None, refl, sym, ap, ◌∙◌}
+use Rattle.std.proofs.Common.{◌≡◌, ℕ, ◌<◌, ◌^◌, ◌==◌, Bool, true, false, List, [], ◌∷◌, refl, sym, ap, ◌∙◌}
 use Rattle.std.specs.Prelude.{Ok}
 use Rattle.raid_base.specs.declared.numbers.HostNo.{HostNo}
 use Rattle.raid_base.specs.declared.names.Name.{Name}
@@ -273,5 +273,5 @@ module _ (script : Script) (h : ℕ) (f : Bool) (name : Name) (block : List ℕ)
   pub plays : (most : ℕ) → has_ended script (sim script no_faults most) (host_of h) ≡ true → sim script no_faults most ≡ history_7 script h f name block i j
   plays most over =
       let start : sim script no_faults most ≡ rounds script no_faults most [] 0 0
-          = ap (λ (turns : List Turn). rounds script no_faults most (play script no_faults [] turns) 0 (last_moment turns)) given.turns in
+      = ap (λ (turns : List Turn). rounds script no_faults most (play script no_faults [] turns) 0 (last_moment turns)) given.turns in
       start ∙ comes_0 most 0 (ap (λ (history : List Call). has_ended script history (host_of h)) (sym start) ∙ over)

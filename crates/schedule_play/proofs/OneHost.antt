@@ -12,8 +12,8 @@ use Rattle.slot_rules.specs.Slots.{Bay}
 use Rattle.slot_rules.specs.Rules.{Outcome, rule}
 use Rattle.slot_rules.specs.Replay.{next_clock}
 use Rattle.script_text.specs.Script.{Script, host_numbers}
-use Rattle.host_engine.specs.Progress.{Progress, Sent, asks, takes, at_start}
-use Rattle.host_engine.specs.History.{no_faults, has_ended, progress_at, if_taken, bay_at, if_ruled, clock_at, answered, after_sent, after_turn}
+use Rattle.host_engine.specs.Progress.{Progress, asks, takes}
+use Rattle.host_engine.specs.History.{no_faults, has_ended, progress_at, if_taken, bay_at, if_ruled, clock_at, after_sent, after_turn}
 use Rattle.schedule_play.specs.Turns.{all_ended, next_host, or_first, next_moment, round_on, rounds}
 
 -- a call with this answer
@@ -101,10 +101,10 @@ module _ (script : Script) (host : HostNo) (alone : host_numbers script ≡ host
   pub climbs : (history later last : List Call) (moment : ℕ) → has_ended script history host ≡ false →
       after_turn script no_faults history (record { host = host; moment = next_moment moment }) ≡ later →
       ((most from : ℕ) → has_ended script (rounds script no_faults most later from (next_moment moment)) host ≡ true →
-        rounds script no_faults most later from (next_moment moment) ≡ last) →
+      rounds script no_faults most later from (next_moment moment) ≡ last) →
       (most from : ℕ) → has_ended script (rounds script no_faults most history from moment) host ≡ true → rounds script no_faults most history from moment ≡ last
   climbs history later last moment on turn rest zero from over = cc
   climbs history later last moment on turn rest (suc most) from over =
       let step : rounds script no_faults (suc most) history from moment ≡ rounds script no_faults most later (host.0 + 1) (next_moment moment)
-          = goes_on most history later from moment on turn in
+      = goes_on most history later from moment on turn in
       step ∙ rest most (host.0 + 1) (ap (λ (h : List Call). has_ended script h host) (sym step) ∙ over)
