@@ -1,5 +1,5 @@
 -- The play of a smallest script: its seven calls, and what its host and bays are after each.
-use Rattle.std.proofs.Common.{◌≡◌, ℕ, ◌<◌, ◌^◌, ◌==◌, Bool, true, false, List, [], ◌∷◌, refl, sym, ap, ◌∙◌}
+use Rattle.std.proofs.Common.{◌≡◌, ℕ, ◌<◌, ◌^◌, ◌==◌, Bool, true, false, List, [], ◌∷◌, refl, sym, ap, subst, ◌∙◌}
 use Rattle.std.specs.Prelude.{Ok}
 use Rattle.raid_base.specs.declared.numbers.HostNo.{HostNo}
 use Rattle.raid_base.specs.declared.names.Name.{Name}
@@ -15,7 +15,7 @@ use Rattle.script_text.specs.Script.{Script}
 use Rattle.host_engine.specs.Progress.{Progress, takes, is_over}
 use Rattle.host_engine.specs.History.{no_faults, has_ended, progress_at, bay_at, clock_at, after_turn, play}
 use Rattle.schedule_play.specs.Turns.{sim, rounds, last_moment}
-use Rattle.schedule_play.proofs.OneHost.{call_of, taken, turn_is, ruled, unruled, climbs, stays}
+use Rattle.schedule_play.proofs.OneHost.{call_of, taken, turn_is, ruled, unruled, holds_on, stays}
 use Rattle.schedule_play.proofs.FirstCalls.{Given, host_of, bay, first_no, other_no, parity_cell, seen_no, claim_parity, share_other, claim_unit, confirm_parity, put_unit, put_parity, share_unit, at_write, after_1, after_2, after_3, after_4, after_5, at_read, at_end, asked_1, asked_2, asked_3, asked_4, asked_5, asked_6, asked_7, going_0, going_1, going_2, going_3, going_4, going_5, going_6, going_7, write_begins, read_begins}
 use Rattle.schedule_play.proofs.FirstBays.{fresh, claimed, written, shared, read, claims, shares, confirms, puts, reads, same_number}
 
@@ -234,44 +234,94 @@ module _ (script : Script) (h : ℕ) (f : Bool) (name : Name) (block : List ℕ)
   over_at : (history : List Call) (p : Progress) (b : Bool) → progress_at script (host_of h) history ≡ p → is_over p.work ≡ b → has_ended script history (host_of h) ≡ b
   over_at history p b at over = ap (λ (q : Progress). is_over q.work) at ∙ over
 
-  -- from each call on the play comes to its last
-  abbrev Comes : List Call → ℕ → Type 0
-  Comes history moment = (most from : ℕ) → has_ended script (rounds script no_faults most history from moment) (host_of h) ≡ true →
-      rounds script no_faults most history from moment ≡ history_7 script h f name block i j
+  over_0 : has_ended script [] (host_of h) ≡ false
+  over_0 = over_at [] _ false stage_0.progress (going_0 script h name block i j f)
 
-  comes_7 : Comes (history_7 script h f name block i j) 7
-  comes_7 most from over = stays script (host_of h) given.alone most _ from 7 (over_at (history_7 script h f name block i j) _ true stage_7.progress (going_7 script h name block i j f))
+  over_1 : has_ended script (history_1 script h f name block i j) (host_of h) ≡ false
+  over_1 = over_at (history_1 script h f name block i j) _ false stage_1.progress (going_1 script h name block i j f)
 
-  comes_6 : Comes (history_6 script h f name block i j) 6
-  comes_6 = climbs script (host_of h) given.alone (history_6 script h f name block i j) (history_7 script h f name block i j) (history_7 script h f name block i j) 6
-      (over_at (history_6 script h f name block i j) _ false stage_6.progress (going_6 script h name block i j f)) turned_7 comes_7
+  over_2 : has_ended script (history_2 script h f name block i j) (host_of h) ≡ false
+  over_2 = over_at (history_2 script h f name block i j) _ false stage_2.progress (going_2 script h name block i j f)
 
-  comes_5 : Comes (history_5 script h f name block i j) 5
-  comes_5 = climbs script (host_of h) given.alone (history_5 script h f name block i j) (history_6 script h f name block i j) (history_7 script h f name block i j) 5
-      (over_at (history_5 script h f name block i j) _ false stage_5.progress (going_5 script h name block i j f)) turned_6 comes_6
+  over_3 : has_ended script (history_3 script h f name block i j) (host_of h) ≡ false
+  over_3 = over_at (history_3 script h f name block i j) _ false stage_3.progress (going_3 script h name block i j f)
 
-  comes_4 : Comes (history_4 script h f name block i j) 4
-  comes_4 = climbs script (host_of h) given.alone (history_4 script h f name block i j) (history_5 script h f name block i j) (history_7 script h f name block i j) 4
-      (over_at (history_4 script h f name block i j) _ false stage_4.progress (going_4 script h name block i j f)) turned_5 comes_5
+  over_4 : has_ended script (history_4 script h f name block i j) (host_of h) ≡ false
+  over_4 = over_at (history_4 script h f name block i j) _ false stage_4.progress (going_4 script h name block i j f)
 
-  comes_3 : Comes (history_3 script h f name block i j) 3
-  comes_3 = climbs script (host_of h) given.alone (history_3 script h f name block i j) (history_4 script h f name block i j) (history_7 script h f name block i j) 3
-      (over_at (history_3 script h f name block i j) _ false stage_3.progress (going_3 script h name block i j f)) turned_4 comes_4
+  over_5 : has_ended script (history_5 script h f name block i j) (host_of h) ≡ false
+  over_5 = over_at (history_5 script h f name block i j) _ false stage_5.progress (going_5 script h name block i j f)
 
-  comes_2 : Comes (history_2 script h f name block i j) 2
-  comes_2 = climbs script (host_of h) given.alone (history_2 script h f name block i j) (history_3 script h f name block i j) (history_7 script h f name block i j) 2
-      (over_at (history_2 script h f name block i j) _ false stage_2.progress (going_2 script h name block i j f)) turned_3 comes_3
+  over_6 : has_ended script (history_6 script h f name block i j) (host_of h) ≡ false
+  over_6 = over_at (history_6 script h f name block i j) _ false stage_6.progress (going_6 script h name block i j f)
 
-  comes_1 : Comes (history_1 script h f name block i j) 1
-  comes_1 = climbs script (host_of h) given.alone (history_1 script h f name block i j) (history_2 script h f name block i j) (history_7 script h f name block i j) 1
-      (over_at (history_1 script h f name block i j) _ false stage_1.progress (going_1 script h name block i j f)) turned_2 comes_2
+  over_7 : has_ended script (history_7 script h f name block i j) (host_of h) ≡ true
+  over_7 = over_at (history_7 script h f name block i j) _ true stage_7.progress (going_7 script h name block i j f)
 
-  comes_0 : Comes [] 0
-  comes_0 = climbs script (host_of h) given.alone [] (history_1 script h f name block i j) (history_7 script h f name block i j) 0
-      (over_at [] _ false stage_0.progress (going_0 script h name block i j f)) turned_1 comes_1
+  -- what holds after each call
+  pub record Each (P : List Call → Type 0) : Type 0 where
+    pub at_0 : P []
+    pub at_1 : P (history_1 script h f name block i j)
+    pub at_2 : P (history_2 script h f name block i j)
+    pub at_3 : P (history_3 script h f name block i j)
+    pub at_4 : P (history_4 script h f name block i j)
+    pub at_5 : P (history_5 script h f name block i j)
+    pub at_6 : P (history_6 script h f name block i j)
+    pub at_7 : P (history_7 script h f name block i j)
+
+  -- holds of each play
+  abbrev Holds : (List Call → Type 0) → List Call → ℕ → Type 0
+  Holds P history moment = (most from : ℕ) → P (rounds script no_faults most history from moment)
+
+  holds_7 : (P : List Call → Type 0) → Each P → Holds P (history_7 script h f name block i j) 7
+  holds_7 P each most from =
+      subst P (sym (stays script (host_of h) given.alone most (history_7 script h f name block i j) from 7 over_7)) each.at_7
+
+  holds_6 : (P : List Call → Type 0) → Each P → Holds P (history_6 script h f name block i j) 6
+  holds_6 P each = holds_on script (host_of h) given.alone P (history_6 script h f name block i j) (history_7 script h f name block i j) 6 over_6 turned_7 each.at_6 (holds_7 P each)
+
+  holds_5 : (P : List Call → Type 0) → Each P → Holds P (history_5 script h f name block i j) 5
+  holds_5 P each = holds_on script (host_of h) given.alone P (history_5 script h f name block i j) (history_6 script h f name block i j) 5 over_5 turned_6 each.at_5 (holds_6 P each)
+
+  holds_4 : (P : List Call → Type 0) → Each P → Holds P (history_4 script h f name block i j) 4
+  holds_4 P each = holds_on script (host_of h) given.alone P (history_4 script h f name block i j) (history_5 script h f name block i j) 4 over_4 turned_5 each.at_4 (holds_5 P each)
+
+  holds_3 : (P : List Call → Type 0) → Each P → Holds P (history_3 script h f name block i j) 3
+  holds_3 P each = holds_on script (host_of h) given.alone P (history_3 script h f name block i j) (history_4 script h f name block i j) 3 over_3 turned_4 each.at_3 (holds_4 P each)
+
+  holds_2 : (P : List Call → Type 0) → Each P → Holds P (history_2 script h f name block i j) 2
+  holds_2 P each = holds_on script (host_of h) given.alone P (history_2 script h f name block i j) (history_3 script h f name block i j) 2 over_2 turned_3 each.at_2 (holds_3 P each)
+
+  holds_1 : (P : List Call → Type 0) → Each P → Holds P (history_1 script h f name block i j) 1
+  holds_1 P each = holds_on script (host_of h) given.alone P (history_1 script h f name block i j) (history_2 script h f name block i j) 1 over_1 turned_2 each.at_1 (holds_2 P each)
+
+  holds_0 : (P : List Call → Type 0) → Each P → Holds P [] 0
+  holds_0 P each = holds_on script (host_of h) given.alone P [] (history_1 script h f name block i j) 0 over_0 turned_1 each.at_0 (holds_1 P each)
+
+  pub holds : (P : List Call → Type 0) → Each P → (most : ℕ) → P (sim script no_faults most)
+  holds P each most =
+      subst (λ (turns : List Turn). P (rounds script no_faults most (play script no_faults [] turns) 0 (last_moment turns))) (sym given.turns) (holds_0 P each most 0)
+
+  -- a play that has come to its end is the last of these histories
+  Ends : List Call → Type 0
+  Ends history = has_ended script history (host_of h) ≡ true → history ≡ history_7 script h f name block i j
+
+  each_ends : Each Ends
+  unfolding Ends
+  each_ends = record {
+    at_0 = λ over. absurd (unended [] over_0 over);
+    at_1 = λ over. absurd (unended (history_1 script h f name block i j) over_1 over);
+    at_2 = λ over. absurd (unended (history_2 script h f name block i j) over_2 over);
+    at_3 = λ over. absurd (unended (history_3 script h f name block i j) over_3 over);
+    at_4 = λ over. absurd (unended (history_4 script h f name block i j) over_4 over);
+    at_5 = λ over. absurd (unended (history_5 script h f name block i j) over_5 over);
+    at_6 = λ over. absurd (unended (history_6 script h f name block i j) over_6 over);
+    at_7 = λ over. refl;
+  }
+    where
+      unended : (history : List Call) → has_ended script history (host_of h) ≡ false → has_ended script history (host_of h) ≡ true → ⊥
+      unended history on over = cc
 
   pub plays : (most : ℕ) → has_ended script (sim script no_faults most) (host_of h) ≡ true → sim script no_faults most ≡ history_7 script h f name block i j
-  plays most over =
-      let start : sim script no_faults most ≡ rounds script no_faults most [] 0 0
-      = ap (λ (turns : List Turn). rounds script no_faults most (play script no_faults [] turns) 0 (last_moment turns)) given.turns in
-      start ∙ comes_0 most 0 (ap (λ (history : List Call). has_ended script history (host_of h)) (sym start) ∙ over)
+  unfolding Ends
+  plays most over = holds Ends each_ends most over

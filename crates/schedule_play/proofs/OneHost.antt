@@ -1,5 +1,5 @@
 -- Plays of one host, turn by turn.
-use Rattle.std.proofs.Common.{◌≡◌, ℕ, zero, suc, ◌+◌, ◌==◌, nat_le, ◌&&◌, Bool, true, false, List, [], ◌∷◌, Option, Some, None, cond, refl, sym, ap, ◌∙◌}
+use Rattle.std.proofs.Common.{◌≡◌, ℕ, zero, suc, ◌+◌, ◌==◌, nat_le, ◌&&◌, Bool, true, false, List, [], ◌∷◌, Option, Some, None, cond, refl, sym, ap, subst, ◌∙◌}
 use Rattle.std.specs.Prelude.{find, not}
 use Rattle.std.specs.List.{list_all}
 use Rattle.raid_base.specs.declared.numbers.HostNo.{HostNo}
@@ -97,14 +97,11 @@ module _ (script : Script) (host : HostNo) (alone : host_numbers script ≡ host
   stays (suc most) history from moment over =
       ap (round_on (rounds script no_faults most) script no_faults history moment) (next_is history from ∙ found_over host (nat_le from host.0) (has_ended script history host) over)
 
-  -- turn by turn to the last history
-  pub climbs : (history later last : List Call) (moment : ℕ) → has_ended script history host ≡ false →
+  -- what holds at a history and after any number of turns behind it
+  pub holds_on : (P : List Call → Type 0) (history later : List Call) (moment : ℕ) → has_ended script history host ≡ false →
       after_turn script no_faults history (record { host = host; moment = next_moment moment }) ≡ later →
-      ((most from : ℕ) → has_ended script (rounds script no_faults most later from (next_moment moment)) host ≡ true →
-      rounds script no_faults most later from (next_moment moment) ≡ last) →
-      (most from : ℕ) → has_ended script (rounds script no_faults most history from moment) host ≡ true → rounds script no_faults most history from moment ≡ last
-  climbs history later last moment on turn rest zero from over = cc
-  climbs history later last moment on turn rest (suc most) from over =
-      let step : rounds script no_faults (suc most) history from moment ≡ rounds script no_faults most later (host.0 + 1) (next_moment moment)
-      = goes_on most history later from moment on turn in
-      step ∙ rest most (host.0 + 1) (ap (λ (h : List Call). has_ended script h host) (sym step) ∙ over)
+      P history → ((most from : ℕ) → P (rounds script no_faults most later from (next_moment moment))) →
+      (most from : ℕ) → P (rounds script no_faults most history from moment)
+  holds_on P history later moment on turn here rest zero from = here
+  holds_on P history later moment on turn here rest (suc most) from =
+      subst P (sym (goes_on most history later from moment on turn)) (rest most (host.0 + 1))

@@ -11,7 +11,7 @@ use Rattle.raid_base.specs.Replies.{is_fault}
 use Rattle.script_text.specs.Script.{Script}
 use Rattle.host_engine.specs.History.{faults_in}
 use Rattle.schedule_play.specs.Turns.{all_ended, sim}
-use Rattle.schedule_play.specs.Headline.{IsSerialPlay}
+use Rattle.schedule_play.specs.Headline.{IsSerialPlay, KeepsParity}
 
 -- the object's one row
 abbrev pub only_row : RowNo
@@ -60,3 +60,8 @@ has_fault history = list_any (λ (call : Call). is_fault call.answer.reply) hist
 abbrev pub FirstPlaysAreSerial : Type 0
 FirstPlaysAreSerial = (script : Script) (history : List Call) (most : ℕ) → IsFirst script → history ≡ sim script (faults_in history) most →
     has_fault history ≡ false → all_ended script history ≡ true → IsSerialPlay script history
+
+-- Each play of such a script without a fault keeps the parity, whether it has come to its end or not.
+abbrev pub FirstPlaysKeepParity : Type 0
+FirstPlaysKeepParity = (script : Script) (history : List Call) (most : ℕ) → IsFirst script → history ≡ sim script (faults_in history) most →
+    has_fault history ≡ false → KeepsParity script history
