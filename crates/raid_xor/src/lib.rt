@@ -5,14 +5,14 @@ ghost use Rattle.std.specs.Prelude.{◌≡◌};
 ghost use Rattle.raid_xor.specs.Sums.{xor_of, sum_of};
 
 use raid_base::Cell;
+use std::simd::prelude::*;
 
 /// Adds `from` to `to`, byte by byte.
 pub fn xor_into(to: &mut [u8; 64], from: &[u8; 64])
     ensures { to.new ≡ xor_of to.old from.now }
 {
-    for i in 0..64 {
-        to[i] ^= from[i];
-    }
+    let sum = u8x64::from_array(*to) ^ u8x64::from_array(*from);
+    *to = sum.to_array();
 }
 
 /// The sum of the cells' bytes, zeros where there is no cell.
