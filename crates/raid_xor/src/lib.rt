@@ -3,6 +3,7 @@
 
 ghost use Rattle.std.specs.Prelude.{◌≡◌};
 ghost use Rattle.raid_xor.specs.Sums.{xor_of, sum_of};
+ghost use Rattle.raid_xor.specs.Laws.{Commutes, Associates, HasZero, IsSelfInverse, MakesBlocks, SumsAdd};
 
 use raid_base::Cell;
 use std::simd::prelude::*;
@@ -24,4 +25,15 @@ pub fn sum_of(cells: &[Cell]) -> [u8; 64]
         xor_into(&mut sum, &cell.bytes);
     }
     sum
+}
+
+/// The exclusive-or of blocks is a sum in which each block is its own opposite.
+pub fn blocks_add_up()
+    ensures commutes { Commutes }
+    ensures associates { Associates }
+    ensures zero { HasZero }
+    ensures inverse { IsSelfInverse }
+    ensures blocks { MakesBlocks }
+    ensures sums { SumsAdd }
+{
 }
