@@ -1,8 +1,7 @@
 -- The laws of one bay that follow from one outcome.
-use Rattle.std.proofs.Common.{◌≡◌, ℕ, ◌||◌, Bool, true, false, if◌then◌else◌, nat_lt, List, Option, Some, None, is_some, slice_set, refl, sym, ap, ◌∙◌, arith}
+use Rattle.std.proofs.Common.{◌≡◌, ℕ, ◌||◌, Bool, true, false, if◌then◌else◌, List, Some, None, is_some, slice_set, refl, ap, ◌∙◌, arith}
 use Rattle.std.proofs.lemmas.List.{set-get_or}
 use Rattle.std.proofs.lemmas.Bool.Decides.{nat_tests}
-use Rattle.raid_base.specs.declared.cells.Cell.{Cell}
 use Rattle.raid_base.specs.declared.numbers.Number.{Number}
 use Rattle.raid_base.specs.declared.numbers.RowNo.{RowNo}
 use Rattle.raid_base.specs.declared.messages.How.{How}
@@ -16,8 +15,10 @@ use Rattle.raid_base.specs.Numbers.{number}
 use Rattle.raid_base.specs.Fits.{fits}
 use Rattle.raid_base.specs.Replies.{is_fault}
 use Rattle.slot_rules.specs.Slots.{Slot, Bay, bare_slot, slot_of}
-use Rattle.slot_rules.specs.Rules.{SlotOutcome, Outcome, keeps, raised, with_slot, share_rule, claim_rule, confirm_rule, put_rule, release_rule, lose_rule, fit_rule, rule_of, rule}
-use Rattle.slot_rules.specs.Laws.{RepliesFit, is_refused, refused_slot, refused_bay, RefusalsLeaveTheBay, FaultsComeOfTheStore, FaultsComeOfStores, uses_store}
+use Rattle.slot_rules.specs.Rules.{SlotOutcome, Outcome, keeps, raised, with_slot, share_rule, claim_rule, confirm_rule, put_rule, release_rule, lose_rule, fit_rule, rule_of}
+use Rattle.slot_rules.specs.declared.slot.Verdict.TheVariants.{NeedRead}
+use Rattle.slot_rules.specs.Serving.{need, row_of, cell_at}
+use Rattle.slot_rules.specs.Laws.{RepliesFit, is_refused, refused_slot, refused_bay, RefusalsLeaveTheBay, FaultsComeOfStores, uses_store}
 use Rattle.slot_rules.proofs.RuleTrees.{Good, good-share, good-claim, good-confirm, good-put, good-release}
 
 pub raised-same : (high n : Number) → raised high n n ≡ high
@@ -28,10 +29,10 @@ pub with_slot-numbers : (bay : Bay) (row : RowNo) (old : Slot) (o : SlotOutcome)
     with_slot bay row old o ≡ record { reply = o.reply; bay = record bay { slots = slice_set bay.slots row.0 o.slot } }
 with_slot-numbers bay row old o r w =
     ap (λ (h : Number). record { reply = o.reply; bay = record bay { high = h; slots = slice_set bay.slots row.0 o.slot } })
-        (ap (λ (n : Number). raised (raised bay.high old.read_no n) old.write_no o.slot.write_no) r
-        ∙ ap (λ (n : Number). raised (raised bay.high old.read_no old.read_no) old.write_no n) w
-        ∙ raised-same (raised bay.high old.read_no old.read_no) old.write_no
-        ∙ raised-same bay.high old.read_no)
+    (ap (λ (n : Number). raised (raised bay.high old.read_no n) old.write_no o.slot.write_no) r
+    ∙ ap (λ (n : Number). raised (raised bay.high old.read_no old.read_no) old.write_no n) w
+    ∙ raised-same (raised bay.high old.read_no old.read_no) old.write_no
+    ∙ raised-same bay.high old.read_no)
 
 -- a slot that stays
 pub with_slot-same : (bay : Bay) (row : RowNo) (reply : Reply) → with_slot bay row (slot_of bay row) (keeps (slot_of bay row) reply) ≡ record { reply = reply; bay = bay }
@@ -46,6 +47,7 @@ pub record Lawful (bay : Bay) (what : Request) (outcome : Bool → Outcome) : Ty
   pub works : is_fault (outcome false).reply ≡ false
   pub failed : is_fault (outcome true).reply ≡ true → outcome true ≡ record { reply = Fault; bay = bay }
   pub spared : is_fault (outcome true).reply ≡ false → outcome true ≡ outcome false
+  pub seen : is_fault (outcome true).reply ≡ true → need what ≡ NeedRead → is_some (cell_at bay (row_of what)) ≡ true
 
 -- what a refused request leaves, from what it leaves of its slot
 abbrev pub Leaves : Bay → RowNo → Request → Type 0
@@ -87,14 +89,15 @@ leaves-claim bay row id Seize mask want Fault left e = leaves-same bay row (Faul
 leaves-claim bay row id Seize mask want Emptied left e = leaves-same bay row (Emptied) left e
 leaves-claim bay row id Seize mask want Fitted left e = leaves-same bay row (Fitted) left e
 
-lawful-row : (bay : Bay) (row : RowNo) (what : Request) (f : Bool → SlotOutcome) → Leaves bay row what → Good bay.empty what (slot_of bay row) f →
+lawful-row : (bay : Bay) (row : RowNo) (what : Request) (f : Bool → SlotOutcome) → row_of what ≡ Some row → Leaves bay row what → Good bay.empty what (slot_of bay row) f →
     Lawful bay what (λ fails. with_slot bay row (slot_of bay row) (f fails))
-lawful-row bay row what f leaves good = record {
+lawful-row bay row what f is leaves good = record {
   fitting = good.fitting;
   kept = λ fails h. leaves (f fails).reply (f fails).slot (good.kept fails h);
   works = good.works;
   failed = λ h. ap (λ (o : SlotOutcome). with_slot bay row (slot_of bay row) o) (good.failed h) ∙ with_slot-same bay row Fault;
   spared = λ h. ap (λ (o : SlotOutcome). with_slot bay row (slot_of bay row) o) (good.spared h);
+  seen = λ h n. ap (λ r. is_some (cell_at bay r)) is ∙ good.seen h n;
 }
 
 lawful-lose : (bay : Bay) (b : Bool) → Lawful bay Lose (λ _. lose_rule bay b)
@@ -104,6 +107,7 @@ lawful-lose bay true = record {
   works = refl;
   failed = λ h. absurd (let bad : false ≡ true = h in cc);
   spared = λ h. refl;
+  seen = λ h n. absurd (let bad : false ≡ true = h in cc);
 }
 lawful-lose bay false = record {
   fitting = λ fails. refl;
@@ -111,6 +115,7 @@ lawful-lose bay false = record {
   works = refl;
   failed = λ h. absurd (let bad : false ≡ true = h in cc);
   spared = λ h. refl;
+  seen = λ h n. absurd (let bad : false ≡ true = h in cc);
 }
 
 lawful-fit : (bay : Bay) (b : Bool) → Lawful bay Fit (λ _. fit_rule bay b)
@@ -120,6 +125,7 @@ lawful-fit bay true = record {
   works = refl;
   failed = λ h. absurd (let bad : false ≡ true = h in cc);
   spared = λ h. refl;
+  seen = λ h n. absurd (let bad : false ≡ true = h in cc);
 }
 lawful-fit bay false = record {
   fitting = λ fails. refl;
@@ -127,14 +133,15 @@ lawful-fit bay false = record {
   works = refl;
   failed = λ h. absurd (let bad : false ≡ true = h in cc);
   spared = λ h. refl;
+  seen = λ h n. absurd (let bad : false ≡ true = h in cc);
 }
 
 pub lawful : (bay : Bay) (ask : Ask) (what : Request) → Lawful bay what (λ fails. rule_of bay ask fails what)
-lawful bay ask (Share row id want) = lawful-row bay row _ (λ fails. share_rule bay (slot_of bay row) ask id want fails) (λ reply left e. leaves-same bay row reply left e) (good-share bay (slot_of bay row) ask row id want)
-lawful bay ask (Claim row id how mask want) = lawful-row bay row _ (λ fails. claim_rule how bay (slot_of bay row) ask id mask want fails) (leaves-claim bay row id how mask want) (good-claim bay (slot_of bay row) ask row id how mask want)
-lawful bay ask (Confirm row id want) = lawful-row bay row _ (λ fails. confirm_rule bay (slot_of bay row) id want fails) (λ reply left e. leaves-same bay row reply left e) (good-confirm bay (slot_of bay row) row id want)
-lawful bay ask (Put row id n cell) = lawful-row bay row _ (λ fails. put_rule bay (slot_of bay row) id n cell fails) (λ reply left e. leaves-same bay row reply left e) (good-put bay (slot_of bay row) row id n cell)
-lawful bay ask (Release row id n) = lawful-row bay row _ (λ fails. release_rule bay (slot_of bay row) id n) (λ reply left e. leaves-same bay row reply left e) (good-release bay (slot_of bay row) row id n)
+lawful bay ask (Share row id want) = lawful-row bay row _ (λ fails. share_rule bay (slot_of bay row) ask id want fails) refl (λ reply left e. leaves-same bay row reply left e) (good-share bay (slot_of bay row) ask row id want)
+lawful bay ask (Claim row id how mask want) = lawful-row bay row _ (λ fails. claim_rule how bay (slot_of bay row) ask id mask want fails) refl (leaves-claim bay row id how mask want) (good-claim bay (slot_of bay row) ask row id how mask want)
+lawful bay ask (Confirm row id want) = lawful-row bay row _ (λ fails. confirm_rule bay (slot_of bay row) id want fails) refl (λ reply left e. leaves-same bay row reply left e) (good-confirm bay (slot_of bay row) row id want)
+lawful bay ask (Put row id n cell) = lawful-row bay row _ (λ fails. put_rule bay (slot_of bay row) id n cell fails) refl (λ reply left e. leaves-same bay row reply left e) (good-put bay (slot_of bay row) row id n cell)
+lawful bay ask (Release row id n) = lawful-row bay row _ (λ fails. release_rule bay (slot_of bay row) id n) refl (λ reply left e. leaves-same bay row reply left e) (good-release bay (slot_of bay row) row id n)
 lawful bay ask Lose = lawful-lose bay bay.empty
 lawful bay ask Fit = lawful-fit bay bay.empty
 
@@ -148,3 +155,7 @@ pub faults_lem : FaultsComeOfStores
 faults_lem bay ask =
     let l = lawful bay ask ask.what in
     record { works = l.works; failed = l.failed; spared = l.spared }
+
+-- where a block is shown the slot has a cell
+pub cells-there : (bay : Bay) (ask : Ask) → uses_store bay ask ≡ true → need ask.what ≡ NeedRead → is_some (cell_at bay (row_of ask.what)) ≡ true
+cells-there bay ask = (lawful bay ask ask.what).seen

@@ -1,5 +1,5 @@
 -- What holds of every outcome of the rule, request by request.
-use Rattle.std.proofs.Common.{◌≡◌, ℕ, Bool, true, false, if◌then◌else◌, not, nat_lt, List, find, Option, Some, None, is_some, is_none, refl, sym, ap, ◌∙◌}
+use Rattle.std.proofs.Common.{◌≡◌, ℕ, Bool, true, false, if◌then◌else◌, not, nat_lt, find, Option, Some, None, is_some, refl, sym, ap, ◌∙◌}
 use Rattle.raid_base.specs.declared.cells.Cell.{Cell}
 use Rattle.raid_base.specs.declared.numbers.Number.{Number}
 use Rattle.raid_base.specs.declared.numbers.RowNo.{RowNo}
@@ -10,7 +10,7 @@ use Rattle.raid_base.specs.declared.messages.How.TheVariants.{Plain, Seize, Mend
 use Rattle.raid_base.specs.declared.messages.Note.{Note}
 use Rattle.raid_base.specs.declared.messages.Ask.{Ask}
 use Rattle.raid_base.specs.declared.messages.Reply.{Reply}
-use Rattle.raid_base.specs.declared.messages.Reply.TheVariants.{Granted, Busy, Late, Young, Missing, Held, NoNote, Done, Fault}
+use Rattle.raid_base.specs.declared.messages.Reply.TheVariants.{Busy, Late, Young, Missing, Held, NoNote, Done, Fault}
 use Rattle.raid_base.specs.declared.messages.Request.{Request}
 use Rattle.raid_base.specs.declared.messages.Request.TheVariants.{Share, Claim, Confirm, Put, Release}
 use Rattle.raid_base.specs.Numbers.{greater}
@@ -18,7 +18,9 @@ use Rattle.raid_base.specs.Fits.{fits}
 use Rattle.raid_base.specs.Replies.{is_fault}
 use Rattle.slot_rules.specs.declared.Reader.{Reader}
 use Rattle.slot_rules.specs.Slots.{Slot, Bay, reader_note}
-use Rattle.slot_rules.specs.Rules.{SlotOutcome, keeps, reads, wanted_cell, granted, slot_floor, missing_floor, is_reader, note_id, is_same_host, may_seize, young_note, share_lock, share_granted_lock, share_order, share_unnoted, share_granted_order, share_by, share_at, share_rule, claim_granted, claim_free, claim_noted, claim_at, is_late, seize_granted, seize_unread, seize_blank, seize_noted, seize_rule, claim_rule, confirm_missing, confirm_rule, put_done, put_rule, release_reader, release_rule}
+use Rattle.slot_rules.specs.Rules.{SlotOutcome, keeps, reads, wanted_cell, granted, slot_floor, missing_floor, is_reader, note_id, is_same_host, may_seize, young_note, share_lock, share_granted_lock, share_order, share_unnoted, share_granted_order, share_by, share_at, share_rule, claim_granted, claim_noted, claim_at, is_late, seize_granted, seize_unread, seize_blank, seize_noted, claim_rule, confirm_missing, confirm_rule, put_done, put_rule, release_reader, release_rule}
+use Rattle.slot_rules.specs.declared.slot.Verdict.TheVariants.{NeedRead, NeedWrite}
+use Rattle.slot_rules.specs.Serving.{need}
 use Rattle.slot_rules.specs.Laws.{is_refused, refused_slot}
 
 -- what holds of an outcome, whether the store fails or not
@@ -28,6 +30,7 @@ pub record Good (empty : Bool) (what : Request) (slot : Slot) (outcome : Bool �
   pub spared : is_fault (outcome true).reply ≡ false → outcome true ≡ outcome false
   pub fitting : (fails : Bool) → fits what (outcome fails).reply ≡ true
   pub kept : (fails : Bool) → is_refused (outcome fails).reply ≡ true → (outcome fails).slot ≡ refused_slot empty what (outcome fails).reply slot
+  pub seen : is_fault (outcome true).reply ≡ true → need what ≡ NeedRead → is_some slot.cell ≡ true
 
 good-said : (empty : Bool) (what : Request) (slot : Slot) (reply : Reply) → is_fault reply ≡ false → fits what reply ≡ true → refused_slot empty what reply slot ≡ slot →
     Good empty what slot (λ _. keeps slot reply)
@@ -37,6 +40,7 @@ good-said empty what slot reply f t r = record {
   spared = λ h. refl;
   fitting = λ fails. t;
   kept = λ fails h. sym r;
+  seen = λ h n. absurd (let bad : true ≡ false = sym h ∙ f in cc);
 }
 
 good-done : (empty : Bool) (what : Request) (slot : Slot) (o : SlotOutcome) → is_fault o.reply ≡ false → fits what o.reply ≡ true → is_refused o.reply ≡ false →
@@ -47,6 +51,7 @@ good-done empty what slot o f t r = record {
   spared = λ h. refl;
   fitting = λ fails. t;
   kept = λ fails h. absurd (let bad : true ≡ false = sym h ∙ r in cc);
+  seen = λ h n. absurd (let bad : true ≡ false = sym h ∙ f in cc);
 }
 
 fits_both : (what : Request) (slot : Slot) (o : SlotOutcome) (outcome : Bool → SlotOutcome) → outcome true ≡ keeps slot Fault → outcome false ≡ o →
@@ -64,13 +69,14 @@ kept_both empty what slot o outcome y n rf r false h =
 -- the store fails, or all is done
 good-store : (empty : Bool) (what : Request) (slot : Slot) (o : SlotOutcome) (outcome : Bool → SlotOutcome) → outcome true ≡ keeps slot Fault → outcome false ≡ o →
     is_fault o.reply ≡ false → is_refused o.reply ≡ false → fits what o.reply ≡ true → fits what Fault ≡ true → refused_slot empty what Fault slot ≡ slot →
-    Good empty what slot outcome
-good-store empty what slot o outcome y n f r t tf rf = record {
+    (need what ≡ NeedRead → is_some slot.cell ≡ true) → Good empty what slot outcome
+good-store empty what slot o outcome y n f r t tf rf there = record {
   works = ap (λ (x : SlotOutcome). is_fault x.reply) n ∙ f;
   failed = λ h. y;
   spared = λ h. absurd (let bad : true ≡ false = sym (ap (λ (x : SlotOutcome). is_fault x.reply) y) ∙ h in cc);
   fitting = fits_both what slot o outcome y n tf t;
   kept = kept_both empty what slot o outcome y n rf r;
+  seen = λ h. there;
 }
 
 -- the same whether the store fails or not
@@ -82,13 +88,14 @@ good-same empty what slot o outcome all f r t = record {
   spared = λ h. all true ∙ sym (all false);
   fitting = λ fails. ap (λ (x : SlotOutcome). fits what x.reply) (all fails) ∙ t;
   kept = λ fails h. absurd (let bad : true ≡ false = sym h ∙ ap (λ (x : SlotOutcome). is_refused x.reply) (all fails) ∙ r in cc);
+  seen = λ h n. absurd (let bad : true ≡ false = sym h ∙ ap (λ (x : SlotOutcome). is_fault x.reply) (all true) ∙ f in cc);
 }
 
 good-read_by : (empty : Bool) (what : Request) (slot : Slot) (want : Bool) (o : SlotOutcome) (shown : Option Cell) → wanted_cell want slot ≡ shown →
     is_fault o.reply ≡ false → is_refused o.reply ≡ false → fits what o.reply ≡ true → (want ≡ true → fits what Fault ≡ true) → refused_slot empty what Fault slot ≡ slot →
     Good empty what slot (λ fails. reads want fails slot o)
 good-read_by empty what slot want o None e f r t tf rf = good-same empty what slot o (λ fails. reads want fails slot o) (λ fails. rw e refl) f r t
-good-read_by empty what slot true o (Some cell) e f r t tf rf = good-store empty what slot o (λ fails. reads true fails slot o) (rw e refl) (rw e refl) f r t (tf refl) rf
+good-read_by empty what slot true o (Some cell) e f r t tf rf = good-store empty what slot o (λ fails. reads true fails slot o) (rw e refl) (rw e refl) f r t (tf refl) rf (λ n. ap (λ c. is_some c) e)
 good-read_by empty what slot false o (Some cell) e f r t tf rf = absurd (let bad : None ≡ Some cell = e in cc)
 
 -- a cell is shown
@@ -114,14 +121,14 @@ good-share_unnoted : (bay : Bay) (slot : Slot) (row : RowNo) (id : Number) (want
     Good bay.empty (Share row id want) slot (λ fails. share_unnoted bay slot id want fails)
 good-share_unnoted bay slot row id want t =
     good-if bay.empty (Share row id want) slot (λ _. keeps slot (Late slot.write_no)) (λ fails. reads want fails slot (share_granted_order bay slot id want)) (nat_lt id.0 slot.write_no.0)
-        (good-said _ _ _ (Late slot.write_no) refl refl refl) (good-read _ _ slot want (share_granted_order bay slot id want) refl refl t (λ w. w) refl)
+    (good-said _ _ _ (Late slot.write_no) refl refl refl) (good-read _ _ slot want (share_granted_order bay slot id want) refl refl t (λ w. w) refl)
 
 good-share_order : (bay : Bay) (slot : Slot) (row : RowNo) (id : Number) (want : Bool) (note : Option Note) → fits (Share row id want) (granted bay slot want None) ≡ true →
     Good bay.empty (Share row id want) slot (λ fails. share_order bay slot id want fails note)
 good-share_order bay slot row id want None t = good-share_unnoted bay slot row id want t
 good-share_order bay slot row id want (Some note) t =
     good-if bay.empty (Share row id want) slot (λ _. keeps slot (Busy note)) (λ fails. share_unnoted bay slot id want fails) (nat_lt note.origin.0 id.0)
-        (good-said _ _ _ (Busy note) refl refl refl) (good-share_unnoted bay slot row id want t)
+    (good-said _ _ _ (Busy note) refl refl refl) (good-share_unnoted bay slot row id want t)
 
 good-share_by : (mode : Mode) (bay : Bay) (slot : Slot) (ask : Ask) (row : RowNo) (id : Number) (want : Bool) → fits (Share row id want) (granted bay slot want None) ≡ true →
     Good bay.empty (Share row id want) slot (λ fails. share_by mode bay slot ask id want fails)
@@ -150,7 +157,7 @@ good-claim_noted bay slot ask row id mask want (Some note) reader t = good-said 
 good-claim_noted bay slot ask row id mask want None (Some reader) t = good-said _ _ _ (Busy (reader_note reader)) refl refl refl
 good-claim_noted bay slot ask row id mask want None None t =
     good-if bay.empty (Claim row id Plain mask want) slot (λ _. keeps slot (Late (greater slot.read_no slot.write_no))) (λ fails. reads want fails slot (claim_granted bay slot ask id mask want)) (is_late Plain bay.mode id slot)
-        (good-said _ _ _ (Late (greater slot.read_no slot.write_no)) refl refl refl) (good-read _ _ slot want (claim_granted bay slot ask id mask want) refl refl t (λ w. w) refl)
+    (good-said _ _ _ (Late (greater slot.read_no slot.write_no)) refl refl refl) (good-read _ _ slot want (claim_granted bay slot ask id mask want) refl refl t (λ w. w) refl)
 
 good-claim_at : (bay : Bay) (slot : Slot) (ask : Ask) (row : RowNo) (id : Number) (mask : ℕ) (want empty : Bool) (cell : Option Cell) → slot.cell ≡ cell →
     Good bay.empty (Claim row id Plain mask want) slot (λ fails. claim_at bay slot ask id Plain mask want fails (if empty then Some bay.high else slot_floor slot cell))
@@ -198,6 +205,7 @@ good-seize_blank bay slot row id mask want e f = record {
   spared = λ h. refl;
   fitting = λ fails. refl;
   kept = λ fails h. rw (f, e) refl;
+  seen = λ h n. absurd (let bad : false ≡ true = h in cc);
 }
 
 good-seize_there : (bay : Bay) (slot : Slot) (ask : Ask) (row : RowNo) (id : Number) (mask : ℕ) (want : Bool) (cell : Option Cell) (reader : Option Reader) → slot.cell ≡ cell → bay.empty ≡ false →
@@ -239,16 +247,16 @@ pub good-confirm : (bay : Bay) (slot : Slot) (row : RowNo) (id : Number) (want :
     Good bay.empty (Confirm row id want) slot (λ fails. confirm_rule bay slot id want fails)
 good-confirm bay slot row id want =
     good-if bay.empty (Confirm row id want) slot (λ fails. reads want fails slot (keeps slot (Held (wanted_cell want slot)))) (λ _. confirm_missing bay slot (missing_floor bay slot)) (note_id slot.note id)
-        (good-read _ _ slot want (keeps slot (Held (wanted_cell want slot))) refl refl (fits_held slot row id want) (λ w. w) refl)
-        (good-confirm_missing bay slot row id want (missing_floor bay slot))
+    (good-read _ _ slot want (keeps slot (Held (wanted_cell want slot))) refl refl (fits_held slot row id want) (λ w. w) refl)
+    (good-confirm_missing bay slot row id want (missing_floor bay slot))
 
 -- Put
 pub good-put : (bay : Bay) (slot : Slot) (row : RowNo) (id n : Number) (cell : Cell) →
     Good bay.empty (Put row id n cell) slot (λ fails. put_rule bay slot id n cell fails)
 good-put bay slot row id n cell =
     good-if bay.empty (Put row id n cell) slot (λ fails. if fails then keeps slot Fault else put_done slot id n cell) (λ _. keeps slot (NoNote bay.life)) (note_id slot.note id)
-        (good-store _ _ slot (put_done slot id n cell) (λ fails. if fails then keeps slot Fault else put_done slot id n cell) refl refl refl refl refl refl refl)
-        (good-said _ _ _ (NoNote bay.life) refl refl refl)
+    (good-store _ _ slot (put_done slot id n cell) (λ fails. if fails then keeps slot Fault else put_done slot id n cell) refl refl refl refl refl refl refl (λ n. absurd (let bad : NeedWrite ≡ NeedRead = n in cc)))
+    (good-said _ _ _ (NoNote bay.life) refl refl refl)
 
 -- Release
 good-release_reader : (bay : Bay) (slot : Slot) (row : RowNo) (id : Number) (n : Option Number) (reader : Option Reader) →
@@ -260,5 +268,5 @@ pub good-release : (bay : Bay) (slot : Slot) (row : RowNo) (id : Number) (n : Op
     Good bay.empty (Release row id n) slot (λ _. release_rule bay slot id n)
 good-release bay slot row id n =
     good-if bay.empty (Release row id n) slot (λ _. record { reply = Done; slot = record slot { note = None } }) (λ _. release_reader bay slot id n (find (is_reader id) slot.readers)) (note_id slot.note id)
-        (good-done _ _ slot (record { reply = Done; slot = record slot { note = None } }) refl refl refl)
-        (good-release_reader bay slot row id n (find (is_reader id) slot.readers))
+    (good-done _ _ slot (record { reply = Done; slot = record slot { note = None } }) refl refl refl)
+    (good-release_reader bay slot row id n (find (is_reader id) slot.readers))

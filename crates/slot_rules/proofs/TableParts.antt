@@ -1,5 +1,5 @@
 -- How the slots' code makes up the rule of a bay.
-use Rattle.std.proofs.Common.{◌≡◌, ℕ, ◌<◌, ◌≤◌, ◌||◌, Bool, true, false, if◌then◌else◌, List, [], length, map, Option, Some, None, is_none, unwrap_or, ◌+◌, slice_index_or, slice_set, refl, sym, ap, subst, ◌∙◌, arith}
+use Rattle.std.proofs.Common.{◌≡◌, ℕ, ◌<◌, ◌≤◌, Bool, true, false, if◌then◌else◌, List, [], length, map, Option, Some, None, is_none, unwrap_or, ◌+◌, slice_index_or, slice_set, refl, sym, ap, subst, ◌∙◌, arith}
 use Rattle.std.proofs.lemmas.List.{set-get_or}
 use Rattle.raid_base.specs.declared.cells.Cell.{Cell}
 use Rattle.raid_base.specs.declared.numbers.Number.{Number}
@@ -15,7 +15,7 @@ use Rattle.slot_rules.specs.declared.slot.SlotState.{SlotState}
 use Rattle.slot_rules.specs.declared.slot.Verdict.{Verdict}
 use Rattle.slot_rules.specs.Slots.{Slot, Bay, bare_slot, slot_of}
 use Rattle.slot_rules.specs.Rules.{Outcome, raised, note_id, put_rule, share_rule, claim_rule, confirm_rule, release_rule, with_slot, lose_rule, fit_rule, rule_of, rule}
-use Rattle.slot_rules.specs.Tables.{Table, bay_of, with_block, slots_with, with_blocks, bare_kept, is_missing_at, lost_of, shown_mark}
+use Rattle.slot_rules.specs.Tables.{Table, bay_of, with_block, slots_with, with_blocks, bare_kept, lost_of}
 use Rattle.slot_rules.specs.Serving.{row_of, slot_rule, verdict_for, verdict_of, needed_cell, cell_at, served_cell, block_after, blocks_after, ServedSlot, ServedRow, device_after}
 use Rattle.slot_rules.proofs.TableLists.{slot-there, slots-set, slots-bare}
 
@@ -59,22 +59,20 @@ blank_cell None slot block e = rw e refl
 blank_cell (Some lost) slot block e = rw e refl
 
 pub missing-there : (table : Table) (row : RowNo) (slot : SlotState) → row.0 < length table.slots → slot ≡ slice_index_or table.slots row.0 slot →
-    table.state.empty ≡ false → (blocks : List (List ℕ)) → is_none slot.mark ≡ is_missing_at (with_blocks table blocks) row
-missing-there table row slot l e f = λ blocks.
+    (blocks : List (List ℕ)) → is_none slot.mark ≡ is_none (slot_of (with_blocks table blocks) row).cell
+missing-there table row slot l e = λ blocks.
     blank_cell _ slot (slice_index_or blocks row.0 []) refl
     ∙ ap (λ (s : Slot). is_none s.cell) (sym (slot_of-there table blocks row slot l e))
-    ∙ ap (λ b. b || is_none (slot_of (with_blocks table blocks) row).cell) (sym f)
 
 mark_cell : (mark : Option ℕ) (slot : SlotState) (block : List ℕ) → slot.mark ≡ mark → unwrap_or slot.mark 0 ≡ lost_of (with_block slot block).cell
 mark_cell None slot block e = rw e refl
 mark_cell (Some lost) slot block e = rw e refl
 
 pub mark-there : (table : Table) (row : RowNo) (slot : SlotState) → row.0 < length table.slots → slot ≡ slice_index_or table.slots row.0 slot →
-    table.state.empty ≡ false → (blocks : List (List ℕ)) → unwrap_or slot.mark 0 ≡ shown_mark (with_blocks table blocks) row
-mark-there table row slot l e f = λ blocks.
+    (blocks : List (List ℕ)) → unwrap_or slot.mark 0 ≡ lost_of (slot_of (with_blocks table blocks) row).cell
+mark-there table row slot l e = λ blocks.
     mark_cell _ slot (slice_index_or blocks row.0 []) refl
     ∙ ap (λ (s : Slot). lost_of s.cell) (sym (slot_of-there table blocks row slot l e))
-    ∙ ap (λ b. if b then 0 else lost_of (slot_of (with_blocks table blocks) row).cell) (sym f)
 
 put-block : (bay : Bay) (slot : Slot) (row : RowNo) (id n : Number) (new : Cell) (cell : Option Cell) (block : List ℕ) (b : Bool) → note_id slot.note id ≡ b →
     cell ≡ (if is_fault (put_rule bay slot id n new true).reply then Some new else None) →

@@ -1,17 +1,15 @@
 -- The laws of one bay.
-use Rattle.std.specs.Prelude.{◌≡◌, ℕ, ◌||◌, Bool, true, false, if◌then◌else◌, List, slice_set, Option, Some, None, is_some}
-use Rattle.raid_base.specs.declared.numbers.Number.{Number}
-use Rattle.raid_base.specs.declared.numbers.RowNo.{RowNo}
-use Rattle.raid_base.specs.declared.messages.How.TheVariants.{Plain, Seize, Mend}
+use Rattle.std.specs.Prelude.{◌≡◌, ◌||◌, Bool, true, false, if◌then◌else◌, slice_set, None, is_some}
+use Rattle.raid_base.specs.declared.messages.How.TheVariants.{Seize}
 use Rattle.raid_base.specs.declared.messages.Ask.{Ask}
 use Rattle.raid_base.specs.declared.messages.Reply.{Reply}
 use Rattle.raid_base.specs.declared.messages.Reply.TheVariants.{Granted, Busy, Late, Young, Missing, Held, NoNote, Done, Fault, Emptied, Fitted}
 use Rattle.raid_base.specs.declared.messages.Request.{Request}
-use Rattle.raid_base.specs.declared.messages.Request.TheVariants.{Share, Claim, Confirm, Put, Release, Lose, Fit}
+use Rattle.raid_base.specs.declared.messages.Request.TheVariants.{Claim}
 use Rattle.raid_base.specs.Fits.{fits}
 use Rattle.raid_base.specs.Replies.{is_fault}
 use Rattle.slot_rules.specs.Slots.{Slot, Bay, slot_of}
-use Rattle.slot_rules.specs.Rules.{Outcome, rule}
+use Rattle.slot_rules.specs.Rules.{rule}
 
 -- the reply always fits the request
 abbrev pub RepliesFit : Type 0

@@ -103,6 +103,10 @@ slot_rule bay slot ask fails (Release row id n) = release_rule bay slot id n
 slot_rule bay slot ask fails Lose = keeps slot Emptied
 slot_rule bay slot ask fails Fit = keeps slot Fitted
 
+abbrev pub is_put : Request → Bool
+is_put (Put row id n cell) = true
+is_put _ = false
+
 -- what is asked of the store
 abbrev pub need : Request → Verdict
 need (Put row id n cell) = NeedWrite
@@ -143,9 +147,9 @@ needed_cell (Put row id n new) there = Some new
 needed_cell (Share row id want) there = there
 needed_cell (Claim row id how mask want) there = there
 needed_cell (Confirm row id want) there = there
-needed_cell (Release row id n) there = None
-needed_cell Lose there = None
-needed_cell Fit there = None
+needed_cell (Release row id n) there = there
+needed_cell Lose there = there
+needed_cell Fit there = there
 
 -- the cell of a row of a bay
 abbrev pub cell_at : Bay → Option RowNo → Option Cell

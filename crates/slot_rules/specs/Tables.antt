@@ -1,12 +1,11 @@
 -- What `Slots` keeps of a bay, and the bay that it makes up with the blocks of a store.
-use Rattle.std.specs.Prelude.{ℕ, Bool, if◌then◌else◌, List, [], ◌∷◌, Option, Some, None, is_none, ◌||◌}
+use Rattle.std.specs.Prelude.{ℕ, List, [], ◌∷◌, Option, Some, None}
 use Rattle.raid_base.specs.declared.cells.Cell.{Cell}
 use Rattle.raid_base.specs.declared.numbers.Number.{Number}
-use Rattle.raid_base.specs.declared.numbers.RowNo.{RowNo}
 use Rattle.raid_base.specs.Numbers.{number}
 use Rattle.slot_rules.specs.declared.slot.BayState.{BayState}
 use Rattle.slot_rules.specs.declared.slot.SlotState.{SlotState}
-use Rattle.slot_rules.specs.Slots.{Slot, Bay, slot_of}
+use Rattle.slot_rules.specs.Slots.{Slot, Bay}
 
 -- all of a bay but its blocks
 pub record Table : Type 0 where
@@ -43,14 +42,6 @@ bay_of state slots = record { mode = state.mode; patience = state.patience; empt
 abbrev pub with_blocks : Table → List (List ℕ) → Bay
 with_blocks table blocks = bay_of table.state (slots_with table.slots blocks)
 
--- whether a slot is missing: the bay is empty, or the slot blank
-abbrev pub is_missing_at : Bay → RowNo → Bool
-is_missing_at bay row = bay.empty || is_none (slot_of bay row).cell
-
 abbrev pub lost_of : Option Cell → ℕ
 lost_of None = 0
 lost_of (Some cell) = cell.lost
-
--- the mark of a slot, 0 where it is missing
-abbrev pub shown_mark : Bay → RowNo → ℕ
-shown_mark bay row = if bay.empty then 0 else lost_of (slot_of bay row).cell

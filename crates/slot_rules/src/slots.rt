@@ -8,8 +8,8 @@ use raid_base::{Ask, Cell, Mode, NoMemory, Note, Number, Reply, Request, RowNo};
 use std::alloc::Global;
 use std::marker::Model;
 
-/// The row of a request.
-fn row_of(what: Request) -> Option<RowNo>
+/// The row that a request is for.
+pub fn row_of(what: Request) -> Option<RowNo>
     ensures { result ≡ row_of what }
 {
     match what {
@@ -59,11 +59,11 @@ impl Model for Slots {
 }
 
 impl Slots {
-    ghost use Rattle.std.specs.Prelude.{◌≡◌, ◌≤◌, ◌<◌, ◌-◌, ◌^◌, ℕ, List, IfOk, IfSome, length, replicate, false};
+    ghost use Rattle.std.specs.Prelude.{◌≡◌, ◌≤◌, ◌<◌, ◌-◌, ◌^◌, ℕ, List, IfOk, IfSome, length, replicate, false, is_none};
     ghost use Rattle.raid_base.specs.Cells.{zeros};
     ghost use Rattle.slot_rules.specs.Slots.{first_bay, slot_of};
     ghost use Rattle.slot_rules.specs.Rules.{rule};
-    ghost use Rattle.slot_rules.specs.Tables.{with_blocks, shown_mark, is_missing_at};
+    ghost use Rattle.slot_rules.specs.Tables.{with_blocks, lost_of};
     ghost use Rattle.slot_rules.specs.Serving.{IsAskFor, verdict_of, served_cell, blocks_after, row_of, ServedRow, table_lost, table_fitted, device_reply, device_after};
 
     /// The slots at the start, over blocks of zeros: none is blank, and all numbers are 0. All memory is taken here.
@@ -114,22 +114,19 @@ impl Slots {
         self.slots[usize::from(row.0)].note
     }
 
-    /// Whether the slot is missing: the bay is empty, or the slot blank.
+    /// Whether the slot is missing: it has no cell. A bay without a device has no cells at all.
     pub fn blank(&self, row: RowNo) -> bool
         requires { row.0 < length self.now.slots }
-        ensures { (blocks : List (List ℕ)) → result ≡ is_missing_at (with_blocks self.now blocks) row }
+        ensures { (blocks : List (List ℕ)) → result ≡ is_none (slot_of (with_blocks self.now blocks) row).cell }
     {
-        self.state.empty || self.slots[usize::from(row.0)].mark.is_none()
+        self.slots[usize::from(row.0)].mark.is_none()
     }
 
     /// The `lost` of the slot's cell, 0 where the slot is missing.
     pub fn mark(&self, row: RowNo) -> u16
         requires { row.0 < length self.now.slots }
-        ensures { (blocks : List (List ℕ)) → result ≡ shown_mark (with_blocks self.now blocks) row }
+        ensures { (blocks : List (List ℕ)) → result ≡ lost_of (slot_of (with_blocks self.now blocks) row).cell }
     {
-        if self.state.empty {
-            return 0;
-        }
         self.slots[usize::from(row.0)].mark.unwrap_or(0)
     }
 
