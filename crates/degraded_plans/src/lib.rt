@@ -6,9 +6,11 @@ ghost use Rattle.raid_xor.specs.Sums.{sum_of};
 ghost use Rattle.degraded_plans.specs.Missing.{missing_of};
 
 pub use kinds::{RowKind, kind};
+pub use laws::rows_stay_sound;
 pub use raid_base::Cell;
 
 pub mod kinds;
+pub mod laws;
 
 use raid_xor::xor_into;
 use row_plans::has_unit;
