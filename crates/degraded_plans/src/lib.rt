@@ -45,3 +45,41 @@ pub fn missing_of(parity: &Cell, others: &[Cell], unit: u8) -> Cell
         lost: 0,
     }
 }
+
+#[cfg(test)]
+mod tests {
+    use super::*;
+
+    #[test]
+    fn makes_missing_cells(rt: HostRuntime) {
+        let others = [
+            Cell {
+                bytes: [1; 64],
+                lost: 0,
+            },
+            Cell {
+                bytes: [0; 64],
+                lost: 0b10,
+            },
+        ];
+        let parity = Cell {
+            bytes: [7; 64],
+            lost: 0b10,
+        };
+        assert_eq!(rt;
+            missing_of(&parity, &others, 2),
+            Cell {
+                bytes: [6; 64],
+                lost: 0
+            }
+        );
+        assert_eq!(rt;
+            missing_of(&parity, &others, 1),
+            Cell {
+                bytes: [0; 64],
+                lost: 0b10
+            }
+        );
+        rows_stay_sound();
+    }
+}
