@@ -1,3 +1,4 @@
 pub mod Marks
 pub mod SoundRows
 pub mod Writes
+pub mod RowUnits

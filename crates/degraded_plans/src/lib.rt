@@ -6,7 +6,7 @@ ghost use Rattle.raid_xor.specs.Sums.{sum_of};
 ghost use Rattle.degraded_plans.specs.Missing.{missing_of};
 
 pub use kinds::{RowKind, kind};
-pub use laws::rows_stay_sound;
+pub use laws::{cells_are_read_freely, rows_stay_sound};
 pub use raid_base::Cell;
 
 pub mod kinds;
@@ -81,5 +81,6 @@ mod tests {
             }
         );
         rows_stay_sound();
+        cells_are_read_freely();
     }
 }

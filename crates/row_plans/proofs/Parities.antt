@@ -105,7 +105,7 @@ AreBlocks-filter cell chosen (u ∷ us) bs =
 abbrev pub split : (ℕ → Cell) → (ℕ → Bool) → List ℕ → List Cell
 split cell chosen units = map cell (filter chosen units) ++ map cell (filter (λ unit. not (chosen unit)) units)
 
-AreBlocks-split : (cell : ℕ → Cell) (chosen : ℕ → Bool) (units : List ℕ) → AreBlocks (map cell units) → AreBlocks (split cell chosen units)
+pub AreBlocks-split : (cell : ℕ → Cell) (chosen : ℕ → Bool) (units : List ℕ) → AreBlocks (map cell units) → AreBlocks (split cell chosen units)
 AreBlocks-split cell chosen units bs =
     AreBlocks-append (map cell (filter chosen units)) (map cell (filter (λ unit. not (chosen unit)) units))
     (AreBlocks-filter cell chosen units bs) (AreBlocks-filter cell (λ unit. not (chosen unit)) units bs)
