@@ -105,17 +105,17 @@ AreBlocks-filter cell chosen (u ∷ us) bs =
 abbrev pub split : (ℕ → Cell) → (ℕ → Bool) → List ℕ → List Cell
 split cell chosen units = map cell (filter chosen units) ++ map cell (filter (λ unit. not (chosen unit)) units)
 
-AreBlocks-split : (cell : ℕ → Cell) (chosen : ℕ → Bool) (units : List ℕ) → AreBlocks (map cell units) → AreBlocks (split cell chosen units)
+pub AreBlocks-split : (cell : ℕ → Cell) (chosen : ℕ → Bool) (units : List ℕ) → AreBlocks (map cell units) → AreBlocks (split cell chosen units)
 AreBlocks-split cell chosen units bs =
     AreBlocks-append (map cell (filter chosen units)) (map cell (filter (λ unit. not (chosen unit)) units))
-        (AreBlocks-filter cell chosen units bs) (AreBlocks-filter cell (λ unit. not (chosen unit)) units bs)
+    (AreBlocks-filter cell chosen units bs) (AreBlocks-filter cell (λ unit. not (chosen unit)) units bs)
 
 split_step : (cell : ℕ → Cell) (chosen : ℕ → Bool) (u : ℕ) (us : List ℕ) (b : Bool) → chosen u ≡ b → AreBlocks (map cell (u ∷ us)) → parity_of (split cell chosen (u ∷ us)) ≡ fold_whole (cell u) (parity_of (split cell chosen us))
 split_step cell chosen u us true e bs = rw e (parity_of-cons (cell u) (split cell chosen us) (bs.0, AreBlocks-split cell chosen us bs.1))
 split_step cell chosen u us false e bs =
     rw e (parity_of-first (map cell (filter chosen us)) (cell u) (map cell (filter (λ unit. not (chosen unit)) us))
-            (AreBlocks-filter cell chosen us bs.1) (bs.0, AreBlocks-filter cell (λ unit. not (chosen unit)) us bs.1)
-        ∙ parity_of-cons (cell u) (split cell chosen us) (bs.0, AreBlocks-split cell chosen us bs.1))
+    (AreBlocks-filter cell chosen us bs.1) (bs.0, AreBlocks-filter cell (λ unit. not (chosen unit)) us bs.1)
+    ∙ parity_of-cons (cell u) (split cell chosen us) (bs.0, AreBlocks-split cell chosen us bs.1))
 
 pub order_free : (cell : ℕ → Cell) (chosen : ℕ → Bool) (units : List ℕ) → AreBlocks (map cell units) → parity_of (split cell chosen units) ≡ parity_of (map cell units)
 order_free cell chosen [] bs = refl
