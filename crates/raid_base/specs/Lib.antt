@@ -1,5 +1,6 @@
 pub mod Names
 pub mod Numbers
+pub mod Least
 pub mod Cells
 pub mod Replies
 pub mod Fits
