@@ -1,5 +1,5 @@
 //! What an attempt holds of its rows, and how it gives that back.
-ghost use Rattle.std.specs.Prelude.{◌≡◌, ◌++◌, ◌+◌, ◌*◌, ◌≤◌, None, Some, length, flat_map};
+ghost use Rattle.std.specs.Prelude.{◌≡◌, ◌-◌, ◌<◌, All, ◌++◌, ◌+◌, ◌*◌, ◌≤◌, None, Some, length, flat_map};
 ghost use Rattle.arrayvec.specs.ArrayVec.{array_vec_len};
 ghost use Rattle.stripe_layout.specs.Placement.{bays_of};
 ghost use Rattle.attempts.specs.Taking.{Row as RowView};
@@ -9,14 +9,16 @@ ghost use Rattle.attempts.specs.Reading.{row_readers};
 use crate::errands::push_releases;
 use crate::queue::Errands;
 use crate::rows::Row;
-use crate::units::{Bays, Units, ascending, bay_of, granted_of, parity_bay, units_in, units_out};
+use crate::units::{Bays, Units, ascending, granted_of, units_in, units_out};
 use arrayvec::ArrayVec;
 use raid_base::{Grant, Mode, Number, RowNo};
+use stripe_layout::{bay_of, parity_bay};
 
 /// Adds the bays of these units.
 fn push_bays(bays: &mut Bays, n: u8, row: RowNo, units: &[u8])
-    requires few { 1 ≤ n × (n ≤ 16) }
+    requires few { 3 ≤ n × (n ≤ 16) }
     requires room { array_vec_len bays.old + length units.now ≤ 32 }
+    requires within { All (λ unit. unit < n - 1) units.now }
     ensures items { bays.new.items ≡ bays.old.items ++ bays_of n row units.now }
     ensures len { array_vec_len bays.new ≡ array_vec_len bays.old + length units.now }
 {
@@ -27,8 +29,9 @@ fn push_bays(bays: &mut Bays, n: u8, row: RowNo, units: &[u8])
 
 /// The bays of these units.
 pub fn bays_of(n: u8, row: RowNo, units: &[u8]) -> Bays
-    requires few { 1 ≤ n × (n ≤ 16) }
+    requires few { 3 ≤ n × (n ≤ 16) }
     requires room { length units.now ≤ 16 }
+    requires within { All (λ unit. unit < n - 1) units.now }
     ensures value { result.items ≡ bays_of n row units.now }
     ensures len { array_vec_len result ≡ length units.now }
 {
@@ -39,7 +42,7 @@ pub fn bays_of(n: u8, row: RowNo, units: &[u8]) -> Bays
 
 /// Adds the bay of the parity, where it was granted.
 fn push_parity(bays: &mut Bays, n: u8, row: RowNo, parity: Option<Grant>)
-    requires few { 1 ≤ n }
+    requires few { 3 ≤ n × (n ≤ 16) }
     requires room { array_vec_len bays.old + 1 ≤ 32 }
     ensures items { bays.new.items ≡ bays.old.items ++ parity_granted n row parity }
     ensures len { array_vec_len bays.new ≤ array_vec_len bays.old + 1 }
@@ -52,8 +55,9 @@ fn push_parity(bays: &mut Bays, n: u8, row: RowNo, parity: Option<Grant>)
 
 /// The wanted units of a row that were granted.
 fn wanted_granted(n: u8, row: &Row) -> Units
-    requires { 1 ≤ n × (n ≤ 16) }
+    requires { 3 ≤ n × (n ≤ 16) }
     ensures value { result.items ≡ wanted_granted n row.now }
+    ensures within { All (λ unit. unit < n - 1) result.items }
     ensures few { array_vec_len result ≤ 15 }
 {
     let units = units_in(n, row.part().mask);
@@ -62,8 +66,9 @@ fn wanted_granted(n: u8, row: &Row) -> Units
 
 /// The other units of a row that were granted.
 fn others_granted(n: u8, row: &Row) -> Units
-    requires { 1 ≤ n × (n ≤ 16) }
+    requires { 3 ≤ n × (n ≤ 16) }
     ensures value { result.items ≡ others_granted n row.now }
+    ensures within { All (λ unit. unit < n - 1) result.items }
     ensures few { array_vec_len result ≤ 15 }
 {
     let units = units_out(n, row.part().mask);
@@ -72,7 +77,7 @@ fn others_granted(n: u8, row: &Row) -> Units
 
 /// A row's slots that were granted, the data ascending and then the parity.
 pub fn all_granted(n: u8, row: &Row) -> Bays
-    requires { 1 ≤ n × (n ≤ 16) }
+    requires { 3 ≤ n × (n ≤ 16) }
     ensures value { result.items ≡ all_granted n row.now }
     ensures few { array_vec_len result ≤ 16 }
 {
@@ -86,7 +91,7 @@ pub fn all_granted(n: u8, row: &Row) -> Bays
 
 /// A row's claims that were granted, the data ascending and then the parity.
 pub fn claims_granted(n: u8, row: &Row) -> Bays
-    requires { 1 ≤ n × (n ≤ 16) }
+    requires { 3 ≤ n × (n ≤ 16) }
     ensures value { result.items ≡ claims_granted n row.now }
     ensures few { array_vec_len result ≤ 16 }
 {
@@ -98,7 +103,7 @@ pub fn claims_granted(n: u8, row: &Row) -> Bays
 
 /// The readers of a row in the order granted.
 pub fn row_readers(n: u8, row: &Row) -> Bays
-    requires { 1 ≤ n × (n ≤ 16) }
+    requires { 3 ≤ n × (n ≤ 16) }
     ensures value { result.items ≡ row_readers n row.now }
     ensures few { array_vec_len result ≤ 31 }
 {
@@ -112,7 +117,7 @@ pub fn row_readers(n: u8, row: &Row) -> Bays
 
 /// What a read holds of a row: under stamps nothing.
 pub fn read_holds(mode: Mode, n: u8, row: &Row) -> Bays
-    requires { 1 ≤ n × (n ≤ 16) }
+    requires { 3 ≤ n × (n ≤ 16) }
     ensures value { result.items ≡ read_holds mode n row.now }
     ensures few { array_vec_len result ≤ 16 }
 {
@@ -124,7 +129,7 @@ pub fn read_holds(mode: Mode, n: u8, row: &Row) -> Bays
 
 /// What a write holds of a row: its claims, and under locks its readers.
 pub fn write_holds(mode: Mode, n: u8, row: &Row) -> Bays
-    requires { 1 ≤ n × (n ≤ 16) }
+    requires { 3 ≤ n × (n ≤ 16) }
     ensures value { result.items ≡ write_holds mode n row.now }
     ensures few { array_vec_len result ≤ 16 }
 {
@@ -136,7 +141,7 @@ pub fn write_holds(mode: Mode, n: u8, row: &Row) -> Bays
 
 /// Adds the releases of what a read holds of a row.
 pub fn push_read_row(errands: &mut Errands, mode: Mode, n: u8, id: Number, row: &Row)
-    requires few { 1 ≤ n × (n ≤ 16) }
+    requires few { 3 ≤ n × (n ≤ 16) }
     requires room { array_vec_len errands.old ≤ 240 }
     ensures items { errands.new.items ≡ errands.old.items ++ releases id row.now.part.row None (read_holds mode n row.now) }
     ensures len { array_vec_len errands.new ≤ array_vec_len errands.old + 16 }
@@ -147,7 +152,7 @@ pub fn push_read_row(errands: &mut Errands, mode: Mode, n: u8, id: Number, row: 
 
 /// The releases of what a read holds of some rows.
 pub fn read_releases(mode: Mode, n: u8, id: Number, rows: &[Row]) -> Errands
-    requires few { 1 ≤ n × (n ≤ 16) }
+    requires few { 3 ≤ n × (n ≤ 16) }
     requires rows { length rows.now ≤ 8 }
     ensures value { result.items ≡ flat_map (λ (row : RowView). releases id row.part.row None (read_holds mode n row)) rows.now }
     ensures few { array_vec_len result ≤ 16 * length rows.now }
@@ -161,7 +166,7 @@ pub fn read_releases(mode: Mode, n: u8, id: Number, rows: &[Row]) -> Errands
 
 /// Adds the releases of a row's readers, with the number of the read.
 fn push_numbered_row(errands: &mut Errands, n: u8, id: Number, number: Number, row: &Row)
-    requires few { 1 ≤ n × (n ≤ 16) }
+    requires few { 3 ≤ n × (n ≤ 16) }
     requires room { array_vec_len errands.old ≤ 225 }
     ensures items { errands.new.items ≡ errands.old.items ++ releases id row.now.part.row (Some number) (row_readers n row.now) }
     ensures len { array_vec_len errands.new ≤ array_vec_len errands.old + 31 }
@@ -172,7 +177,7 @@ fn push_numbered_row(errands: &mut Errands, n: u8, id: Number, number: Number, r
 
 /// The releases of the readers of some rows, with the number of the read.
 pub fn numbered_releases(n: u8, id: Number, number: Number, rows: &[Row]) -> Errands
-    requires few { 1 ≤ n × (n ≤ 16) }
+    requires few { 3 ≤ n × (n ≤ 16) }
     requires rows { length rows.now ≤ 8 }
     ensures value { result.items ≡ flat_map (λ (row : RowView). releases id row.part.row (Some number) (row_readers n row)) rows.now }
 {

@@ -1,5 +1,6 @@
 //! What an attempt has taken of its rows.
 ghost use Rattle.std.specs.Prelude.{◌≡◌, ◌<◌, length};
+ghost use Rattle.attempts.specs.Taking.{lacks};
 
 use arrayvec::ArrayVec;
 use raid_base::{BayNo, Grant, RowPart};
@@ -186,4 +187,11 @@ impl Taken {
             None => self.missing = Some(bay),
         }
     }
+}
+
+/// Whether a slot of these was missing.
+pub fn lacks(grants: &[Option<Grant>]) -> bool
+    ensures { result ≡ lacks grants.now }
+{
+    grants.iter().any(|grant| grant.is_none())
 }

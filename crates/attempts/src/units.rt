@@ -1,43 +1,18 @@
 //! Units of a row, and the bays that they are on.
-ghost use Rattle.std.specs.Prelude.{◌≡◌, [], ◌∷◌, ◌||◌, if◌then◌else◌, ◌++◌, ◌+◌, ◌<◌, ◌≤◌, length, zip};
+ghost use Rattle.std.specs.Prelude.{◌≡◌, ℕ, ◌-◌, All, [], ◌∷◌, ◌||◌, if◌then◌else◌, ◌++◌, ◌+◌, ◌<◌, ◌≤◌, length, zip};
 ghost use Rattle.arrayvec.specs.ArrayVec.{array_vec_len};
-ghost use Rattle.raid_base.specs.Cells.{has_unit};
-ghost use Rattle.stripe_layout.specs.Placement.{parity_bay, bay_of, bays_of, units_in, units_out};
+ghost use Rattle.stripe_layout.specs.Placement.{units_in, units_out};
 ghost use Rattle.attempts.specs.Releases.{granted_of, is_among, ascending};
 
 use arrayvec::ArrayVec;
-use raid_base::{BayNo, Grant, RowNo};
+use raid_base::{BayNo, Grant};
+use row_plans::has_unit;
 
 /// Units, ascending.
 pub type Units = ArrayVec<u8, 16>;
 
 /// Room for each slot of a row twice.
 pub type Bays = ArrayVec<BayNo, 32>;
-
-/// Whether a mask has a unit.
-pub fn has_unit(mask: u16, unit: u8) -> bool
-    requires { unit < 16 }
-    ensures { result ≡ has_unit mask unit }
-{
-    (mask >> unit) & 1 == 1
-}
-
-/// The bay of a row's parity.
-pub fn parity_bay(n: u8, row: RowNo) -> BayNo
-    requires { 1 ≤ n }
-    ensures { result ≡ parity_bay n row }
-{
-    BayNo(n - 1 - (row.0 % u16::from(n)) as u8)
-}
-
-/// The bay of a unit.
-pub fn bay_of(n: u8, row: RowNo, unit: u8) -> BayNo
-    requires { 1 ≤ n × (n ≤ 16) }
-    ensures { result ≡ bay_of n row unit }
-{
-    let place = u16::from(parity_bay(n, row).0) + 1 + u16::from(unit);
-    BayNo((place % u16::from(n)) as u8)
-}
 
 /// Adds a unit where the test passed.
 fn push_if(units: &mut Units, unit: u8, passed: bool)
@@ -55,6 +30,7 @@ fn push_if(units: &mut Units, unit: u8, passed: bool)
 pub fn units_in(n: u8, mask: u16) -> Units
     requires { 1 ≤ n × (n ≤ 16) }
     ensures value { result.items ≡ units_in n mask }
+    ensures within { All (λ unit. unit < n - 1) result.items }
     ensures few { array_vec_len result ≤ 15 }
 {
     let mut units = ArrayVec::new();
@@ -69,6 +45,7 @@ pub fn units_in(n: u8, mask: u16) -> Units
 pub fn units_out(n: u8, mask: u16) -> Units
     requires { 1 ≤ n × (n ≤ 16) }
     ensures value { result.items ≡ units_out n mask }
+    ensures within { All (λ unit. unit < n - 1) result.items }
     ensures few { array_vec_len result ≤ 15 }
 {
     let mut units = ArrayVec::new();
@@ -83,6 +60,7 @@ pub fn units_out(n: u8, mask: u16) -> Units
 pub fn granted_of(units: &[u8], grants: &[Option<Grant>]) -> Units
     requires { length units.now ≤ 15 }
     ensures value { result.items ≡ granted_of (zip units.now grants.now) }
+    ensures within { (m : ℕ) → All (λ unit. unit < m) units.now → All (λ unit. unit < m) result.items }
     ensures few { array_vec_len result ≤ 15 }
 {
     let mut granted = ArrayVec::new();
@@ -109,6 +87,7 @@ fn is_in_either(first: &[u8], second: &[u8], unit: u8) -> bool
 pub fn ascending(n: u8, first: &[u8], second: &[u8]) -> Units
     requires { 1 ≤ n × (n ≤ 16) }
     ensures value { result.items ≡ ascending n first.now second.now }
+    ensures within { All (λ unit. unit < n - 1) result.items }
     ensures few { array_vec_len result ≤ 15 }
 {
     let mut units = ArrayVec::new();

@@ -1,4 +1,4 @@
-//! What an attempt is to read or write.
+//! What an attempt is to do.
 ghost use Rattle.std.specs.Prelude.{◌≡◌, ◌<◌, ◌≤◌, IsTrue, length};
 ghost use Rattle.arrayvec.specs.ArrayVec.{array_vec_len};
 ghost use Rattle.attempts.specs.Parts.{are_parts};
@@ -11,7 +11,7 @@ pub type RowParts = ArrayVec<RowPart, 8>;
 
 /// The units that an attempt is to read or write, on n bays, and the id that it has.
 #[derive(Debug, Drop)]
-pub struct Wanted {
+pub struct Assignment {
     pub mode: Mode,
     pub n: u8,
     pub id: Number,
