@@ -1,8 +1,8 @@
 -- Where a read stands.
-use Rattle.std.specs.Prelude.{ℕ, ◌+◌, Bool, true, ◌&&◌, nat_lt, nat_le, ◌==◌, length}
+use Rattle.std.specs.Prelude.{ℕ, ◌+◌, Bool, true, false, ◌&&◌, nat_lt, nat_le, ◌==◌, length}
 use Rattle.attempts.specs.Taking.{Taken}
-use Rattle.host_read.specs.declared.ahead.ReadStage.{ReadStage}
-use Rattle.host_read.specs.declared.ahead.ReadStage.TheVariants.{Wanted, Parity, Others, Drawing, Freeing, Releasing}
+use Rattle.host_read.specs.declared.stages.ReadStage.{ReadStage}
+use Rattle.host_read.specs.declared.stages.ReadStage.TheVariants.{Wanted, Parity, Others, Drawing, Freeing, Releasing}
 
 -- a row is in hand, with room for the slots that are asked
 abbrev pub has_room : ℕ → ℕ → ℕ → Taken → Bool
@@ -13,6 +13,15 @@ abbrev pub is_kept : ReadStage → ℕ → ℕ → Taken → Bool
 is_kept Wanted parts left taken = nat_lt 0 left && has_room parts left 0 taken
 is_kept Parity parts left taken = (left == 1) && has_room parts 0 0 taken
 is_kept Others parts left taken = nat_lt 0 left && has_room parts 0 left taken
-is_kept Drawing parts left taken = nat_le (length taken.before) parts
-is_kept (Freeing number gone) parts left taken = nat_le (length taken.before) parts
+is_kept Drawing parts left taken = (left == 0) && nat_le (length taken.before) parts
+is_kept (Freeing number row) parts left taken = nat_le (length taken.before) parts
 is_kept (Releasing cause) parts left taken = true
+
+-- no number is to be drawn
+abbrev pub is_settled : ReadStage → Bool
+is_settled Drawing = false
+is_settled Wanted = true
+is_settled Parity = true
+is_settled Others = true
+is_settled (Freeing number row) = true
+is_settled (Releasing cause) = true
