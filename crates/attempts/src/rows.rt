@@ -1,5 +1,5 @@
 //! What an attempt has taken of its rows.
-ghost use Rattle.std.specs.Prelude.{◌≡◌, ◌<◌, length};
+ghost use Rattle.std.specs.Prelude.{◌≡◌, ◌<◌, ◌+◌, [], ◌∷◌, ◌++◌, length};
 ghost use Rattle.attempts.specs.Taking.{lacks};
 
 use arrayvec::ArrayVec;
@@ -155,7 +155,11 @@ impl Taken {
 
     /// Keeps what a reply gave of the parity.
     pub fn keep_parity(&mut self, bay: BayNo, grant: Option<Grant>)
-        ensures { self.new ≡ with_grant with_parity self.old bay grant }
+        ensures value { self.new ≡ with_grant with_parity self.old bay grant }
+        ensures before { self.new.before ≡ self.old.before }
+        ensures part { self.new.row.part ≡ self.old.row.part }
+        ensures wanted { self.new.row.wanted ≡ self.old.row.wanted }
+        ensures others { self.new.row.others ≡ self.old.row.others }
     {
         self.row.keep_parity(grant);
         match grant {
@@ -167,7 +171,12 @@ impl Taken {
     /// Keeps what a reply gave of the next wanted unit.
     pub fn keep_wanted(&mut self, bay: BayNo, grant: Option<Grant>)
         requires { length self.old.row.wanted < 16 }
-        ensures { self.new ≡ with_grant with_wanted self.old bay grant }
+        ensures value { self.new ≡ with_grant with_wanted self.old bay grant }
+        ensures before { self.new.before ≡ self.old.before }
+        ensures part { self.new.row.part ≡ self.old.row.part }
+        ensures wanted { self.new.row.wanted ≡ self.old.row.wanted ++ grant ∷ [] }
+        ensures others { self.new.row.others ≡ self.old.row.others }
+        ensures len { length self.new.row.wanted ≡ length self.old.row.wanted + 1 }
     {
         self.row.keep_wanted(grant);
         match grant {
@@ -179,7 +188,12 @@ impl Taken {
     /// Keeps what a reply gave of the next of the other units.
     pub fn keep_other(&mut self, bay: BayNo, grant: Option<Grant>)
         requires { length self.old.row.others < 16 }
-        ensures { self.new ≡ with_grant with_other self.old bay grant }
+        ensures value { self.new ≡ with_grant with_other self.old bay grant }
+        ensures before { self.new.before ≡ self.old.before }
+        ensures part { self.new.row.part ≡ self.old.row.part }
+        ensures wanted { self.new.row.wanted ≡ self.old.row.wanted }
+        ensures others { self.new.row.others ≡ self.old.row.others ++ grant ∷ [] }
+        ensures len { length self.new.row.others ≡ length self.old.row.others + 1 }
     {
         self.row.keep_other(grant);
         match grant {

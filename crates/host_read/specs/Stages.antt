@@ -10,8 +10,8 @@ has_room parts wanted others taken = nat_lt (length taken.before) parts && nat_l
 
 -- what each stage keeps of this many parts and errands left
 abbrev pub is_kept : ReadStage → ℕ → ℕ → Taken → Bool
-is_kept Wanted parts left taken = nat_lt 0 left && has_room parts left 0 taken
-is_kept Parity parts left taken = (left == 1) && has_room parts 0 0 taken
+is_kept Wanted parts left taken = nat_lt 0 left && (length taken.row.others == 0) && has_room parts left 0 taken
+is_kept Parity parts left taken = (left == 1) && (length taken.row.others == 0) && has_room parts 0 0 taken
 is_kept Others parts left taken = nat_lt 0 left && has_room parts 0 left taken
 is_kept Drawing parts left taken = (left == 0) && nat_le (length taken.before) parts
 is_kept (Freeing number row) parts left taken = nat_le (length taken.before) parts

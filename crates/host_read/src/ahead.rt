@@ -7,8 +7,8 @@ ghost use Rattle.attempts.specs.Accesses.{access_of};
 ghost use Rattle.attempts.specs.Taking.{Taken as TakenView, row_ended, shares};
 ghost use Rattle.attempts.specs.Releases.{read_releases, refused_steps};
 ghost use Rattle.attempts.specs.Reading.{contents_of, read_numbered, read_drawn, wanted_shared, parity_shared};
-ghost use Rattle.raid_base.specs.Steps.{Through, draws};
-ghost use Rattle.host_read.specs.Stages.{is_kept};
+ghost use Rattle.raid_base.specs.Steps.{Through, draws, settled};
+ghost use Rattle.host_read.specs.Stages.{is_kept, is_settled};
 ghost use Rattle.host_read.specs.Left.{left_of, rest_of};
 
 use attempts::assignment::Assignment;
@@ -18,12 +18,13 @@ use attempts::holds::{bays_of, numbered_releases, push_read_row, read_releases};
 use attempts::queue::Queue;
 use attempts::rows::{Taken, lacks};
 use attempts::units::{units_in, units_out};
+use place_numbers::Numbers;
 use raid_base::{Cause, Mode, Number, RowPart, Spent};
 use crate::stages::{Ahead, ReadStage};
 use stripe_layout::parity_bay;
 
 /// The shares of a part's units.
-fn wanted_shares(job: &Assignment, part: RowPart) -> Queue
+pub fn wanted_shares(job: &Assignment, part: RowPart) -> Queue
     ensures value { result ≡ shares job.now.id part.row (bays_of job.now.n part.row (units_in job.now.n part.mask)) }
     ensures len { length result ≡ length (units_in job.now.n part.mask) }
     ensures few { length result ≤ 15 }
@@ -72,6 +73,7 @@ pub fn end_row(job: &Assignment, taken: &mut Taken, contents: &mut Contents) -> 
     requires room { array_vec_len contents.old ≤ 15 * length taken.old.before }
     ensures left { left_of result.stage (access_of job.now []) taken.new result.queue ≡ rest_of (access_of job.now []) taken.old (row_ended taken.old) }
     ensures kept { is_kept result.stage (array_vec_len job.now.parts) (length result.queue) taken.new ≡ true }
+    ensures row { length taken.new.before ≤ array_vec_len job.now.parts }
     ensures shown { contents.new.items ≡ contents_of job.now.n taken.new.before }
     ensures room { array_vec_len contents.new ≤ 15 * length taken.new.before }
 {
@@ -94,11 +96,12 @@ pub fn end_row(job: &Assignment, taken: &mut Taken, contents: &mut Contents) -> 
 pub fn after_wanted(job: &Assignment, taken: &mut Taken, contents: &mut Contents) -> Ahead
     requires row { length taken.old.before < array_vec_len job.now.parts }
     requires wanted { length taken.old.row.wanted ≤ 16 }
-    requires others { length taken.old.row.others ≤ 16 }
+    requires others { length taken.old.row.others ≡ 0 }
     requires shown { contents.old.items ≡ contents_of job.now.n taken.old.before }
     requires room { array_vec_len contents.old ≤ 15 * length taken.old.before }
     ensures left { left_of result.stage (access_of job.now []) taken.new result.queue ≡ wanted_shared (access_of job.now []) (rest_of (access_of job.now []) taken.old) (Through taken.old) }
     ensures kept { is_kept result.stage (array_vec_len job.now.parts) (length result.queue) taken.new ≡ true }
+    ensures row { length taken.new.before ≤ array_vec_len job.now.parts }
     ensures shown { contents.new.items ≡ contents_of job.now.n taken.new.before }
     ensures room { array_vec_len contents.new ≤ 15 * length taken.new.before }
 {
@@ -122,6 +125,7 @@ pub fn after_parity(job: &Assignment, taken: &mut Taken, contents: &mut Contents
     requires room { array_vec_len contents.old ≤ 15 * length taken.old.before }
     ensures left { left_of result.stage (access_of job.now []) taken.new result.queue ≡ parity_shared (access_of job.now []) (rest_of (access_of job.now []) taken.old) (Through taken.old) }
     ensures kept { is_kept result.stage (array_vec_len job.now.parts) (length result.queue) taken.new ≡ true }
+    ensures row { length taken.new.before ≤ array_vec_len job.now.parts }
     ensures shown { contents.new.items ≡ contents_of job.now.n taken.new.before }
     ensures room { array_vec_len contents.new ≤ 15 * length taken.new.before }
 {
@@ -141,6 +145,7 @@ pub fn refused(job: &Assignment, taken: &Taken, cause: Cause) -> Ahead
     requires { length taken.now.before < 8 }
     ensures left { left_of result.stage (access_of job.now []) taken.now result.queue ≡ refused_steps (read_releases (access_of job.now []) (taken.now.before ++ taken.now.row ∷ [])) cause }
     ensures kept { is_kept result.stage (array_vec_len job.now.parts) (length result.queue) taken.now ≡ true }
+    ensures awake { is_settled result.stage ≡ true }
 {
     let mut errands = read_releases(job.mode, job.n, job.id, taken.before());
     push_read_row(&mut errands, job.mode, job.n, job.id, taken.row());
@@ -156,6 +161,7 @@ pub fn drawn(job: &Assignment, taken: &Taken, number: Result<Number, Spent>) -> 
     requires { length taken.now.before ≤ array_vec_len job.now.parts }
     ensures left { left_of result.stage (access_of job.now []) taken.now result.queue ≡ read_drawn (access_of job.now []) taken.now.before number }
     ensures kept { is_kept result.stage (array_vec_len job.now.parts) (length result.queue) taken.now ≡ true }
+    ensures awake { is_settled result.stage ≡ true }
     ensures settled { draws (left_of result.stage (access_of job.now []) taken.now result.queue) ≡ false }
 {
     match number {
@@ -169,5 +175,28 @@ pub fn drawn(job: &Assignment, taken: &Taken, number: Result<Number, Spent>) -> 
             },
             queue: Queue::new(read_releases(job.mode, job.n, job.id, taken.before())),
         },
+    }
+}
+
+/// Draws the number where it is time to.
+#[tactic(auto, using(crate::proofs::ReadLemmas::settles))]
+pub fn settled(job: &Assignment, taken: &Taken, ahead: Ahead, numbers: &mut Numbers) -> Ahead
+    requires row { length taken.now.before ≤ array_vec_len job.now.parts }
+    requires kept { is_kept ahead.stage (array_vec_len job.now.parts) (length ahead.queue) taken.now ≡ true }
+    ensures left { record { seen = numbers.new.seen; steps = left_of result.stage (access_of job.now []) taken.now result.queue } ≡ settled numbers.old.host numbers.old.seen (left_of ahead.stage (access_of job.now []) taken.now ahead.queue) }
+    ensures host { numbers.new.host ≡ numbers.old.host }
+    ensures kept { is_kept result.stage (array_vec_len job.now.parts) (length result.queue) taken.now ≡ true }
+    ensures awake { is_settled result.stage ≡ true }
+{
+    match ahead.stage {
+        ReadStage::Drawing => {
+            let number = numbers.draw();
+            drawn(job, taken, number)
+        }
+        ReadStage::Wanted => ahead,
+        ReadStage::Parity => ahead,
+        ReadStage::Others => ahead,
+        ReadStage::Freeing { .. } => ahead,
+        ReadStage::Releasing { .. } => ahead,
     }
 }
