@@ -54,7 +54,7 @@ fn push_parity(bays: &mut Bays, n: u8, row: RowNo, parity: Option<Grant>)
 }
 
 /// The wanted units of a row that were granted.
-fn wanted_granted(n: u8, row: &Row) -> Units
+pub fn wanted_granted(n: u8, row: &Row) -> Units
     requires { 3 ≤ n × (n ≤ 16) }
     ensures value { result.items ≡ wanted_granted n row.now }
     ensures within { All (λ unit. unit < n - 1) result.items }
@@ -184,6 +184,56 @@ pub fn numbered_releases(n: u8, id: Number, number: Number, rows: &[Row]) -> Err
     let mut errands = ArrayVec::new();
     for row in rows {
         push_numbered_row(&mut errands, n, id, number, row);
+    }
+    errands
+}
+
+/// Adds the releases of what a write holds of a row.
+pub fn push_write_row(errands: &mut Errands, mode: Mode, n: u8, id: Number, row: &Row)
+    requires few { 3 ≤ n × (n ≤ 16) }
+    requires room { array_vec_len errands.old ≤ 240 }
+    ensures items { errands.new.items ≡ errands.old.items ++ releases id row.now.part.row None (write_holds mode n row.now) }
+    ensures len { array_vec_len errands.new ≤ array_vec_len errands.old + 16 }
+{
+    let bays = write_holds(mode, n, row);
+    push_releases(errands, id, row.part().row, None, bays.as_slice());
+}
+
+/// The releases of what a write holds of some rows.
+pub fn write_releases(mode: Mode, n: u8, id: Number, rows: &[Row]) -> Errands
+    requires few { 3 ≤ n × (n ≤ 16) }
+    requires rows { length rows.now ≤ 8 }
+    ensures value { result.items ≡ flat_map (λ (row : RowView). releases id row.part.row None (write_holds mode n row)) rows.now }
+    ensures few { array_vec_len result ≤ 16 * length rows.now }
+{
+    let mut errands = ArrayVec::new();
+    for row in rows {
+        push_write_row(&mut errands, mode, n, id, row);
+    }
+    errands
+}
+
+/// Adds the releases of a row's readers, without a number.
+fn push_reader_row(errands: &mut Errands, n: u8, id: Number, row: &Row)
+    requires few { 3 ≤ n × (n ≤ 16) }
+    requires room { array_vec_len errands.old ≤ 240 }
+    ensures items { errands.new.items ≡ errands.old.items ++ releases id row.now.part.row None (bays_of n row.now.part.row (others_granted n row.now)) }
+    ensures len { array_vec_len errands.new ≤ array_vec_len errands.old + 16 }
+{
+    let others = others_granted(n, row);
+    let bays = bays_of(n, row.part().row, others.as_slice());
+    push_releases(errands, id, row.part().row, None, bays.as_slice());
+}
+
+/// The releases of the readers of some rows, without a number: a write has readers of other units than it wants.
+pub fn reader_releases(n: u8, id: Number, rows: &[Row]) -> Errands
+    requires few { 3 ≤ n × (n ≤ 16) }
+    requires rows { length rows.now ≤ 8 }
+    ensures { result.items ≡ flat_map (λ (row : RowView). releases id row.part.row None (bays_of n row.part.row (others_granted n row))) rows.now }
+{
+    let mut errands = ArrayVec::new();
+    for row in rows {
+        push_reader_row(&mut errands, n, id, row);
     }
     errands
 }

@@ -1,5 +1,5 @@
 //! What an attempt has taken of its rows.
-ghost use Rattle.std.specs.Prelude.{◌≡◌, ◌<◌, ◌+◌, [], ◌∷◌, ◌++◌, length};
+ghost use Rattle.std.specs.Prelude.{◌≡◌, ◌<◌, ◌≤◌, ◌+◌, [], ◌∷◌, ◌++◌, length};
 ghost use Rattle.attempts.specs.Taking.{lacks};
 
 use arrayvec::ArrayVec;
@@ -73,6 +73,20 @@ impl Row {
         ensures { result.now ≡ self.now.others }
     {
         self.others.as_slice()
+    }
+
+    /// The same row with this parity.
+    pub fn with_parity(&self, parity: Option<Grant>) -> Row
+        requires wanted { length self.now.wanted ≤ 16 }
+        requires others { length self.now.others ≤ 16 }
+        ensures { result ≡ with_parity parity self.now }
+    {
+        Row {
+            part: self.part,
+            parity,
+            wanted: copied(self.wanted()),
+            others: copied(self.others()),
+        }
     }
 
     pub fn keep_parity(&mut self, grant: Option<Grant>)
@@ -201,6 +215,17 @@ impl Taken {
             None => self.missing = Some(bay),
         }
     }
+}
+
+fn copied(grants: &[Option<Grant>]) -> Grants
+    requires { length grants.now ≤ 16 }
+    ensures { result.items ≡ grants.now }
+{
+    let mut copy = ArrayVec::new();
+    for grant in grants {
+        copy.push(*grant);
+    }
+    copy
 }
 
 /// Whether a slot of these was missing.
