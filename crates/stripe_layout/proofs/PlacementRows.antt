@@ -1,5 +1,5 @@
 -- Where the parity and the units of some rows stand.
-use Rattle.std.proofs.Common.{◌≡◌, ℕ, List, [], ◌∷◌, map, Some, None, refl}
+use Rattle.std.proofs.Common.{◌≡◌, ℕ, [], ◌∷◌, map, Some, None, refl}
 use Rattle.raid_base.specs.declared.numbers.RowNo.{RowNo}
 use Rattle.stripe_layout.specs.Placement.{bay, parity_bay, bay_of, unit_at, units}
 
