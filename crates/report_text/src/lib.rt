@@ -1,0 +1,6 @@
+//! The text of a report.
+#![tactic(auto)]
+
+mod lines;
+mod texts;
+mod words;
