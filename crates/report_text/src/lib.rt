@@ -2,5 +2,7 @@
 #![tactic(auto)]
 
 mod lines;
+mod present;
+pub mod rows;
 mod texts;
 mod words;
