@@ -103,3 +103,32 @@ words-then words others g h = appends-then g h (flat_map-append spaced words oth
 -- one word
 pub one-word : {K : Type 0} {tells : K → Bool} {written : K → List ℕ} {faults : K → ℕ} {before now : K} {s : Result Unit Failed} (word : List ℕ) → Appends tells written faults before (spaced word) s now → Appends tells written faults before (flat_map spaced (word ∷ [])) s now
 one-word word h = rw append-nil h
+
+-- A walk over a text: some first part of the whole was appended, and this rest is left
+pub record Begins {K : Type 0} (tells : K → Bool) (written : K → List ℕ) (faults : K → ℕ) (before : K) (whole rest : List ℕ) (now : K) : Type 0 where
+  pub done : List ℕ
+  pub appended : Appends tells written faults before done (Ok tt) now
+  pub parts : whole ≡ done ++ rest
+
+pub begins : {K : Type 0} {tells : K → Bool} {written : K → List ℕ} {faults : K → ℕ} (now : K) (whole : List ℕ) → Begins tells written faults now whole whole now
+begins now whole = record { done = []; appended = appends-nothing now; parts = refl }
+
+-- one more piece
+pub begins-then : {K : Type 0} {tells : K → Bool} {written : K → List ℕ} {faults : K → ℕ} {before between now : K} {whole rest piece : List ℕ} (later : List ℕ) → Begins tells written faults before whole rest between → rest ≡ piece ++ later → Appends tells written faults between piece (Ok tt) now → Begins tells written faults before whole later now
+begins-then {piece = piece} later b e h = record {
+  done = b.done ++ piece;
+  appended = appends-then b.appended h refl;
+  parts = b.parts ∙ ap (λ x. b.done ++ x) e ∙ sym (append_assoc b.done piece later);
+}
+
+-- a last piece, of which the call tells how it ended
+pub begins-last : {K : Type 0} {tells : K → Bool} {written : K → List ℕ} {faults : K → ℕ} {before between now : K} {whole rest : List ℕ} {s : Result Unit Failed} → Begins tells written faults before whole rest between → Appends tells written faults between rest s now → Appends tells written faults before whole s now
+begins-last b h = appends-then b.appended h b.parts
+
+-- a piece fails
+pub begins-fails : {K : Type 0} {tells : K → Bool} {written : K → List ℕ} {faults : K → ℕ} {before between now : K} {whole rest piece : List ℕ} {e : Failed} {s : Result Unit Failed} (later : List ℕ) → Begins tells written faults before whole rest between → rest ≡ piece ++ later → Appends tells written faults between piece (Err e) now → IsErr s → Appends tells written faults before whole s now
+begins-fails {s = s} later b e h is = appends-then b.appended (appends-stops s later h is e) b.parts
+
+-- nothing is left
+pub begins-ends : {K : Type 0} {tells : K → Bool} {written : K → List ℕ} {faults : K → ℕ} {before now : K} {whole rest : List ℕ} → Begins tells written faults before whole rest now → rest ≡ [] → Appends tells written faults before whole (Ok tt) now
+begins-ends b e = rw (b.parts ∙ ap (λ x. b.done ++ x) e ∙ append-nil b.done) b.appended

@@ -4,5 +4,6 @@
 mod lines;
 mod present;
 pub mod rows;
+mod sections;
 mod texts;
 mod words;
