@@ -5,5 +5,7 @@ mod lines;
 mod present;
 pub mod rows;
 mod sections;
+#[cfg(test)]
+mod tests;
 mod texts;
 mod words;
