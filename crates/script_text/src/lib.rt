@@ -1,2 +1,4 @@
 //! Scripts and their text.
 #![tactic(auto)]
+
+mod first;

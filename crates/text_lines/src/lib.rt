@@ -5,6 +5,8 @@ pub mod blocks;
 pub mod numbers;
 #[cfg(test)]
 mod tests;
+pub mod words;
 
 pub use blocks::{block_text, read_block};
 pub use numbers::{number_text, read_number};
+pub use words::{behind_word, behind_words, first_word, is_joined};
