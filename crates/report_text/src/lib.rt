@@ -1,6 +1,8 @@
 //! The text of a report.
 #![tactic(auto)]
 
+mod blocks;
+mod jobs;
 mod lines;
 mod present;
 pub mod rows;
