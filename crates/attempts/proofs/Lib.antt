@@ -1,0 +1,4 @@
+pub mod ObeyLemmas
+pub mod RoomLemmas
+pub mod TakenLemmas
+pub mod ReadObeys
