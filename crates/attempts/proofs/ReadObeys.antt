@@ -1,8 +1,6 @@
 -- Reads keep to their bounds.
-use Rattle.std.proofs.Common.{◌≡◌, ℕ, ◌+◌, ◌*◌, ◌<◌, ◌≤◌, Bool, true, false, List, [], ◌∷◌, ◌++◌, Option, Some, None, Result, Ok, Err, sum_by, IfSome, length, refl, sym, ap, subst, ◌∙◌, arith}
-use Rattle.std.specs.List.{AllByRecursion}
+use Rattle.std.proofs.Common.{◌≡◌, ℕ, ◌+◌, ◌*◌, ◌≤◌, Bool, true, false, List, [], ◌∷◌, ◌++◌, Option, Some, None, Result, Ok, Err, sum_by, length, refl, sym, ap, subst, ◌∙◌, arith}
 use Rattle.std.proofs.lemmas.List.{append-nil, length-map}
-use Rattle.raid_base.specs.declared.numbers.BayNo.{BayNo}
 use Rattle.raid_base.specs.declared.numbers.RowNo.{RowNo}
 use Rattle.raid_base.specs.declared.numbers.Number.{Number}
 use Rattle.raid_base.specs.declared.numbers.Spent.{Spent}
@@ -10,17 +8,16 @@ use Rattle.raid_base.specs.declared.messages.Mode.{Mode}
 use Rattle.raid_base.specs.declared.messages.Mode.TheVariants.{Lock, Order}
 use Rattle.raid_base.specs.declared.messages.Reply.{Reply}
 use Rattle.raid_base.specs.declared.messages.Errand.{Errand}
-use Rattle.raid_base.specs.declared.messages.Grant.{Grant}
 use Rattle.raid_base.specs.declared.jobs.Cause.TheVariants as causes
 use Rattle.raid_base.specs.declared.jobs.RowPart.{RowPart}
 use Rattle.raid_base.specs.Steps.{Steps, Walk, Through, Stopped}
 use Rattle.stripe_layout.specs.Placement.{parity_bay, bay_of, bays_of, units_in, units_out}
-use Rattle.attempts.specs.Taking.{Access, Finish, Row, Rows, no_rows, Taken, begun, row_ended, lacks, behind_from, grant_or_gap, why, with_parity, with_wanted, with_other, share, shares}
+use Rattle.attempts.specs.Taking.{Access, Finish, Row, Rows, no_rows, Taken, begun, row_ended, lacks, behind_from, why, with_parity, with_wanted, with_other, share, shares}
 use Rattle.attempts.specs.Reading.{sharing, read_refused, read_finish, row_readers, numbered_releases, freeing, read_freed, read_drawn, read_numbered, row_shared, parity_shared, share_rest, wanted_shared, read_rows}
 use Rattle.attempts.specs.Discipline.{IsDrawn, IsWithin, Obeys, IsPlainFinish, IsAccess, ReadsObey}
 use Rattle.attempts.proofs.ObeyLemmas.{obeys-more, obeys-run}
-use Rattle.attempts.proofs.RoomLemmas.{both-units, parity-below, readers-below, readers-le, contents-le, parts_of}
-use Rattle.attempts.proofs.TakenLemmas.{SoFar, IsTaking, taking-ended, KeepsPart, keeps-parity, keeps-wanted, keeps-other, taking-kept, some-bays, row-within, units-within, row_releases-le, row_releases-within, read-refused}
+use Rattle.attempts.proofs.RoomLemmas.{both-units, readers-below, readers-le, contents-le, parts_of}
+use Rattle.attempts.proofs.TakenLemmas.{SoFar, IsTaking, taking-ended, keeps-parity, keeps-wanted, keeps-other, taking-step, shares-within, parity-within, some-bays, row_releases-le, row_releases-within, read-refused}
 
 module _ (a : Access) (rows count : ℕ) (is : IsAccess a rows count) where
   abbrev Within : Errand → Type 0
@@ -60,20 +57,9 @@ module _ (a : Access) (rows count : ℕ) (is : IsAccess a rows count) where
   numbered-obeys Order taken so_far = read-plain a.id taken so_far
   numbered-obeys Lock taken so_far = λ d drawn. drawn-obeys taken so_far d drawn
 
-  -- a share of a bay
-  share-within : (row : RowNo) → row.0 < rows → (bay : BayNo) → bay.0 < a.n → Within (share a.id row bay)
-  share-within row low bay below = record { bay = below; request = (low, is.id) }
-
   -- A row
   module _ (part : RowPart) (left : List RowPart) (rest : Rows → Steps Finish) (m : ℕ) (enough : holds ≤ m)
       (rest_obeys : (done : Rows) → SoFar a done.rows left → Obeys Within Plain m (rest done)) where
-    shares-within : (taken : Taken) → IsTaking a part left taken → (us : List ℕ) → AllByRecursion Within (shares a.id taken.row.part.row (bays_of a.n taken.row.part.row us))
-    shares-within taken t us = units-within a rows count is (share a.id taken.row.part.row) (share-within taken.row.part.row (row-within a rows count is part left taken t)) taken.row.part.row us
-
-    sharing-kept : (keep : Option Grant → Row → Row) → KeepsPart keep → (taken : Taken) (e : Errand) (r : Reply) → IsTaking a part left taken
-        → IfSome ((sharing a keep).step taken e r) (IsTaking a part left)
-    sharing-kept keep keeps taken e r t = taking-kept a part left keep keeps taken e.bay (grant_or_gap (behind_from a.mode a.id) taken.missing e.bay r) t
-
     stopped-obeys : (room : ℕ) → m ≤ room → (taken : Taken) (e : Errand) (r : Reply) → IsTaking a part left taken → Obeys Within Plain room (read_refused a taken e r)
     stopped-obeys room le taken e r t =
         read-refused a rows count is count (why (behind_from a.mode a.id) taken e r) (taken.before ++ taken.row ∷ []) left room (taking-ended a part left taken t) (omega arith)
@@ -84,7 +70,7 @@ module _ (a : Access) (rows count : ℕ) (is : IsAccess a rows count) where
     others-obey : (taken : Taken) → IsTaking a part left taken → Obeys Within Plain (length (units_out a.n part.mask) + m) (parity_shared a rest (Through taken))
     others-obey taken t =
         obeys-run Within Plain (IsTaking a part left) (sharing a with_other) (row_shared a rest) m
-        (sharing-kept with_other keeps-other) ended-obeys (stopped-obeys m (omega arith))
+        (taking-step a part left with_other keeps-other) ended-obeys (stopped-obeys m (omega arith))
         (shares a.id taken.row.part.row (bays_of a.n taken.row.part.row (units_out a.n taken.row.part.mask))) taken (length (units_out a.n part.mask) + m)
         (omega (
           arith,
@@ -92,16 +78,16 @@ module _ (a : Access) (rows count : ℕ) (is : IsAccess a rows count) where
           length-map (units_out a.n taken.row.part.mask) (bay_of a.n taken.row.part.row),
           ap (λ (p : RowPart). length (units_out a.n p.mask)) t.row,
         ))
-        (shares-within taken t (units_out a.n taken.row.part.mask)) t
+        (shares-within a rows count is part left taken t (units_out a.n taken.row.part.mask)) t
 
     rest-obeys : (b : Bool) (taken : Taken) → IsTaking a part left taken → Obeys Within Plain (1 + (length (units_out a.n part.mask) + m)) (share_rest a rest taken b)
     rest-obeys false taken t =
         obeys-more Within Plain m (1 + (length (units_out a.n part.mask) + m)) (rest (row_ended taken)) (omega arith) (ended-obeys taken t)
     rest-obeys true taken t =
         obeys-run Within Plain (IsTaking a part left) (sharing a with_parity) (parity_shared a rest) (length (units_out a.n part.mask) + m)
-        (sharing-kept with_parity keeps-parity) others-obey (stopped-obeys (length (units_out a.n part.mask) + m) (omega arith))
+        (taking-step a part left with_parity keeps-parity) others-obey (stopped-obeys (length (units_out a.n part.mask) + m) (omega arith))
         (share a.id taken.row.part.row (parity_bay a.n taken.row.part.row) ∷ []) taken (1 + (length (units_out a.n part.mask) + m))
-        (omega arith) (share-within taken.row.part.row (row-within a rows count is part left taken t) (parity_bay a.n taken.row.part.row) (parity-below a.n taken.row.part.row (some-bays a rows count is)), tt) t
+        (omega arith) (parity-within a rows count is part left taken t, tt) t
 
   rows-obey : (left : List RowPart) (done : Rows) → SoFar a done.rows left → (room : ℕ) → a.n * length left + holds ≤ room → Obeys Within Plain room (read_rows a left done)
   rows-obey [] done so_far room le =
@@ -113,7 +99,7 @@ module _ (a : Access) (rows count : ℕ) (is : IsAccess a rows count) where
       let rest_obeys : (done : Rows) → SoFar a done.rows left → Obeys Within Plain m (read_rows a left done) = (λ done so_far. rows-obey left done so_far m (omega arith)) in
       let begins : IsTaking a part left (begun part done) = record { row = refl; parts = so_far } in
       obeys-run Within Plain (IsTaking a part left) (sharing a with_wanted) (wanted_shared a (read_rows a left)) (1 + (length (units_out a.n part.mask) + m))
-      (sharing-kept part left (read_rows a left) m enough rest_obeys with_wanted keeps-wanted)
+      (taking-step a part left with_wanted keeps-wanted)
       (λ taken t. rest-obeys part left (read_rows a left) m enough rest_obeys (lacks taken.row.wanted) taken t)
       (stopped-obeys part left (read_rows a left) m enough rest_obeys (1 + (length (units_out a.n part.mask) + m)) (omega arith))
       (shares a.id part.row (bays_of a.n part.row (units_in a.n part.mask))) (begun part done) room
@@ -124,7 +110,7 @@ module _ (a : Access) (rows count : ℕ) (is : IsAccess a rows count) where
         both-units a.n part.mask,
         some-bays a rows count is,
       ))
-      (shares-within part left (read_rows a left) m enough rest_obeys (begun part done) begins (units_in a.n part.mask)) begins
+      (shares-within a rows count is part left (begun part done) begins (units_in a.n part.mask)) begins
 
 pub reads_keep_bounds : ReadsObey
 reads_keep_bounds a rows count is = rows-obey a rows count is a.parts no_rows refl (4 * a.n * length a.parts) (omega arith)

@@ -1,22 +1,25 @@
 -- What stays the same while an attempt takes its rows, and how it gives them back.
-use Rattle.std.proofs.Common.{◌≡◌, ℕ, ◌*◌, ◌<◌, ◌≤◌, List, [], ◌∷◌, ◌++◌, Option, Some, None, IfSome, option_map, map, flat_map, length, length-append, refl, sym, ap, subst, ◌∙◌, arith}
+use Rattle.std.proofs.Common.{◌≡◌, ℕ, Bool, ◌*◌, ◌<◌, ◌≤◌, List, [], ◌∷◌, ◌++◌, Option, Some, None, IfSome, option_map, map, flat_map, length, length-append, refl, sym, ap, subst, ◌∙◌, arith}
 use Rattle.std.specs.List.{AllByRecursion}
 use Rattle.std.proofs.Math.Nat.{mul-le-mul_left}
 use Rattle.std.proofs.lemmas.List.{length-map, map-append, append_assoc}
 use Rattle.raid_base.specs.declared.numbers.BayNo.{BayNo}
 use Rattle.raid_base.specs.declared.numbers.RowNo.{RowNo}
 use Rattle.raid_base.specs.declared.numbers.Number.{Number}
+use Rattle.raid_base.specs.declared.messages.Reply.{Reply}
 use Rattle.raid_base.specs.declared.messages.Errand.{Errand}
+use Rattle.raid_base.specs.declared.messages.How.TheVariants.{Plain}
+use Rattle.raid_base.specs.Replies.{grant_of}
 use Rattle.raid_base.specs.declared.messages.Grant.{Grant}
 use Rattle.raid_base.specs.declared.jobs.Cause.{Cause}
 use Rattle.raid_base.specs.declared.jobs.Ended.TheVariants as ends
 use Rattle.raid_base.specs.declared.jobs.RowPart.{RowPart}
-use Rattle.stripe_layout.specs.Placement.{bay_of, bays_of}
-use Rattle.attempts.specs.Taking.{Access, Row, Taken, with_grant, with_parity, with_wanted, with_other}
+use Rattle.stripe_layout.specs.Placement.{parity_bay, bay_of, bays_of}
+use Rattle.attempts.specs.Taking.{Access, Row, Taken, behind_from, with_grant, grant_or_gap, taking, taking_until, share, shares, claim, claims, with_parity, with_wanted, with_other}
 use Rattle.attempts.specs.Releases.{release, releases, releasing, end_as, refused_steps, write_holds, write_releases, read_holds, read_releases}
 use Rattle.attempts.specs.Discipline.{IsNumberIfAny, IsWithin, Obeys, IsPlainFinish, IsAccess}
 use Rattle.attempts.proofs.ObeyLemmas.{obeys-run}
-use Rattle.attempts.proofs.RoomLemmas.{flat_map-le, all-left, all-right, all-map, all-made, all-unmap, all-flat_map, AreBelow, bay-below, write-holds-below, write-holds-le, read-holds-below, read-holds-le, parts_of}
+use Rattle.attempts.proofs.RoomLemmas.{parity-below, flat_map-le, all-left, all-right, all-map, all-made, all-unmap, all-flat_map, AreBelow, bay-below, write-holds-below, write-holds-le, read-holds-below, read-holds-le, parts_of}
 
 -- the rows taken and the parts left are the parts of the access
 abbrev pub SoFar : Access → List Row → List RowPart → Type 0
@@ -56,15 +59,21 @@ module _ (a : Access) (part : RowPart) (left : List RowPart) (keep : Option Gran
   taking-granted taken bay (Some grant) t = record { row = keeps.part (Some grant) taken.row ∙ t.row; parts = t.parts }
   taking-granted taken bay None t = record { row = keeps.part None taken.row ∙ t.row; parts = t.parts }
 
-  pub taking-kept : (taken : Taken) (bay : BayNo) (o : Option (Option Grant)) → IsTaking a part left taken
+  taking-kept : (taken : Taken) (bay : BayNo) (o : Option (Option Grant)) → IsTaking a part left taken
       → IfSome (option_map (with_grant keep taken bay) o) (IsTaking a part left)
   taking-kept taken bay (Some grant) t = taking-granted taken bay grant t
   taking-kept taken bay None t = tt
 
-  pub until-kept : (taken : Taken) (bay : BayNo) (o : Option Grant) → IsTaking a part left taken
+  until-kept : (taken : Taken) (bay : BayNo) (o : Option Grant) → IsTaking a part left taken
       → IfSome (option_map (λ (grant : Grant). with_grant keep taken bay (Some grant)) o) (IsTaking a part left)
   until-kept taken bay (Some grant) t = taking-granted taken bay (Some grant) t
   until-kept taken bay None t = tt
+
+  pub taking-step : (taken : Taken) (e : Errand) (r : Reply) → IsTaking a part left taken → IfSome ((taking (behind_from a.mode a.id) keep).step taken e r) (IsTaking a part left)
+  taking-step taken e r t = taking-kept taken e.bay (grant_or_gap (behind_from a.mode a.id) taken.missing e.bay r) t
+
+  pub until-step : (taken : Taken) (e : Errand) (r : Reply) → IsTaking a part left taken → IfSome ((taking_until keep).step taken e r) (IsTaking a part left)
+  until-step taken e r t = until-kept taken e.bay (grant_of r) t
 
 -- What an access has
 module _ (a : Access) (rows count : ℕ) (is : IsAccess a rows count) where
@@ -97,6 +106,29 @@ module _ (a : Access) (rows count : ℕ) (is : IsAccess a rows count) where
   units-within f h row us =
       all-map (IsWithin a.n rows) (λ (bay : BayNo). bay.0 < a.n) f h (bays_of a.n row us)
       (all-made (λ (bay : BayNo). bay.0 < a.n) (bay_of a.n row) (λ unit. bay-below a.n row unit some-bays) us)
+
+  -- Shares
+  share-within : (row : RowNo) → row.0 < rows → (bay : BayNo) → bay.0 < a.n → IsWithin a.n rows (share a.id row bay)
+  share-within row low bay below = record { bay = below; request = (low, is.id) }
+
+  pub shares-within : (part : RowPart) (left : List RowPart) (taken : Taken) → IsTaking a part left taken → (us : List ℕ)
+      → AllByRecursion (IsWithin a.n rows) (shares a.id taken.row.part.row (bays_of a.n taken.row.part.row us))
+  shares-within part left taken t us =
+      units-within (share a.id taken.row.part.row) (share-within taken.row.part.row (row-within part left taken t)) taken.row.part.row us
+
+  pub parity-within : (part : RowPart) (left : List RowPart) (taken : Taken) → IsTaking a part left taken
+      → IsWithin a.n rows (share a.id taken.row.part.row (parity_bay a.n taken.row.part.row))
+  parity-within part left taken t =
+      share-within taken.row.part.row (row-within part left taken t) (parity_bay a.n taken.row.part.row) (parity-below a.n taken.row.part.row some-bays)
+
+  -- Claims
+  claim-within : (row : RowNo) → row.0 < rows → (want : Bool) (bay : BayNo) → bay.0 < a.n → IsWithin a.n rows (claim a.id row Plain 0 want bay)
+  claim-within row low want bay below = record { bay = below; request = (low, is.id) }
+
+  pub claims-within : (part : RowPart) (left : List RowPart) (taken : Taken) → IsTaking a part left taken → (want : Bool) (us : List ℕ)
+      → AllByRecursion (IsWithin a.n rows) (claims a.id taken.row.part.row Plain want (bays_of a.n taken.row.part.row us))
+  claims-within part left taken t want us =
+      units-within (claim a.id taken.row.part.row Plain 0 want) (claim-within taken.row.part.row (row-within part left taken t) want) taken.row.part.row us
 
   -- Releases
   pub releases-within : (row : RowNo) (n : Option Number) (bays : List BayNo) → row.0 < rows → IsNumberIfAny n → AreBelow a.n bays
