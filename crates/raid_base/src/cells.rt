@@ -1,4 +1,6 @@
 //! What a slot keeps, and what a host makes of it.
+ghost use Rattle.std.specs.Prelude.{◌≡◌};
+ghost use Rattle.raid_base.specs.Cells.{content_of};
 
 /// A block with its mark.
 ///
@@ -10,6 +12,15 @@ pub struct Cell {
     pub lost: u16,
 }
 
+impl Default for Cell {
+    fn default() -> Self {
+        Cell {
+            bytes: [0; 64],
+            lost: 0,
+        }
+    }
+}
+
 /// The content of a block.
 #[derive(Clone, Copy, Debug, PartialEq, Eq)]
 pub enum Content {
@@ -17,9 +28,26 @@ pub enum Content {
     Lost,
 }
 
+impl Default for Content {
+    fn default() -> Self {
+        Content::Lost
+    }
+}
+
 /// What a report shows of a block: its content, or nothing where it is missing and can't be told.
 #[derive(Clone, Copy, Debug, PartialEq, Eq)]
 pub enum Shown {
     Seen(Content),
     Hidden,
+}
+
+/// The content that a cell stands for: `Lost` exactly where its mark isn't 0, and else its bytes.
+pub fn content_of(cell: &Cell) -> Content
+    ensures { result ≡ content_of cell.now }
+{
+    if cell.lost == 0 {
+        Content::Bytes(cell.bytes)
+    } else {
+        Content::Lost
+    }
 }

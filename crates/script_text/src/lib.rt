@@ -1,2 +1,10 @@
 //! Scripts and their text.
 #![tactic(auto)]
+
+mod first;
+mod script;
+#[cfg(test)]
+mod tests;
+
+pub use first::read_first;
+pub use script::{HostJobs, MAX_HOSTS, Script};

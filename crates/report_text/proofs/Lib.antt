@@ -1,0 +1,4 @@
+pub mod Appending
+pub mod JobLookup
+pub mod OtherUnits
+pub mod RowLines
