@@ -13,10 +13,11 @@ use Rattle.raid_base.specs.declared.jobs.RowPart.{RowPart}
 use Rattle.raid_base.specs.declared.jobs.PartsFault.{PartsFault}
 use Rattle.raid_base.specs.Names.{is_text}
 use Rattle.stripe_layout.specs.Placement.{units_in}
-use Rattle.virtual_objects.specs.Objects.{Object, rows_of, rows_touched, parts_from, parts_in, placed_in, place_in, place}
+use Rattle.virtual_objects.specs.Objects.{Object, rows_of, rows_touched, parts_from, parts_in, placed_in, place_in, place, rank}
+use Rattle.raid_base.specs.Cells.{has_unit}
 use Rattle.virtual_objects.specs.Table.{numbers, held}
 use Rattle.virtual_objects.specs.RowParts.{AreInTurn, ArePartsOf}
-use Rattle.virtual_objects.proofs.PartLemmas.{Spans, StandsAt, HasPlaces, rows-same, each-part, in-turn, counts, covers-from, each-placed}
+use Rattle.virtual_objects.proofs.PartLemmas.{Spans, StandsAt, HasPlaces, HasRanks, each-ranked, rows-same, each-part, in-turn, counts, covers-from, each-placed}
 
 -- Where a job begins and ends: in the rows at two places of the object.
 pub record Ends (d first last : ℕ) (rows : List RowNo) : Type 0 where
@@ -149,6 +150,11 @@ job_parts n first count objects name rows (row ∷ rs) hn hc found apart long fe
           (λ (part : RowPart). (k : ℕ) → k < part.count → place n objects (record { object = name; block = first + part.at + k }) ≡ Some (part.row, get_or (units_in n part.mask) k 0))
           (λ part h k less. place-found n objects name rows (first + part.at + k) found ∙ h k less)
           (parts_from (n - 1) first (first + count) (first / (n - 1)) (row ∷ rs)) (each-placed n (n - 1) first (first + count) (first / (n - 1)) rows row rs refl s stands);
+      ranked =
+          All-weaker (HasRanks n (n - 1) first rows)
+          (λ (part : RowPart). (unit : ℕ) → has_unit part.mask unit ≡ true → place n objects (record { object = name; block = first + (part.at + rank unit (units_in n part.mask)) }) ≡ Some (part.row, unit))
+          (λ part h unit has. place-found n objects name rows (first + (part.at + rank unit (units_in n part.mask))) found ∙ h unit has)
+          (parts_from (n - 1) first (first + count) (first / (n - 1)) (row ∷ rs)) (each-ranked n (n - 1) first (first + count) (first / (n - 1)) rows row rs refl s stands);
     }
 
 -- What is granted are the parts of the job.

@@ -1,7 +1,7 @@
 -- Masks that are a run of units.
-use Rattle.std.proofs.Common.{◌≡◌, ◌∙◌, sym, ap, refl, ℕ, zero, suc, ◌+◌, ◌-◌, ◌*◌, ◌%◌, ◌^◌, ◌<◌, ◌≤◌, arith, Bool, true, false, List, [], ◌∷◌, ◌++◌, filter}
+use Rattle.std.proofs.Common.{◌≡◌, ◌∙◌, sym, ap, refl, ℕ, zero, suc, ◌+◌, ◌-◌, ◌*◌, ◌%◌, ◌^◌, ◌<◌, ◌≤◌, arith, inl, inr, ◌==◌, Bool, true, false, List, [], ◌∷◌, ◌++◌, filter}
 use Rattle.std.specs.List.{range_with_len}
-use Rattle.std.proofs.lemmas.Bool.{eq-eqb, ne_eqb, cond-true, cond-false}
+use Rattle.std.proofs.lemmas.Bool.{eq-eqb, ne_eqb, cond-true, cond-false, cases_eq, cases_lt, false≢true}
 use Rattle.std.proofs.lemmas.List.{append-nil}
 use Rattle.std.proofs.lemmas.List.Elements.{filter-append}
 use Rattle.std.proofs.lemmas.Nat.{one_shl, pow_pos}
@@ -9,6 +9,7 @@ use Rattle.std.proofs.lemmas.Nat.Bits.{shr_and_one, bit_at_mask_inside, bit_at_m
 use Rattle.std.proofs.Math.Nat.{pow-le-pow_right}
 use Rattle.raid_base.specs.Cells.{has_unit}
 use Rattle.stripe_layout.specs.Placement.{units_in}
+use Rattle.virtual_objects.specs.Objects.{rank}
 
 -- a run in two pieces
 pub range-split : (a m n : ℕ) → range_with_len a (m + n) ≡ range_with_len a m ++ range_with_len (a + m) n
@@ -62,3 +63,22 @@ shifts_order low high a b =
     let l : 1 * 2 ^ low % 2 ^ 32 ≡ 2 ^ low = one_shl low 32 (omega arith) in
     let h : 1 * 2 ^ high % 2 ^ 32 ≡ 2 ^ high = one_shl high 32 (omega arith) in
     rw (l, h) (pow-le-pow_right {n = 2} (omega arith) a)
+
+-- the place of a unit in a run
+pub rank-run : (low len unit : ℕ) → low ≤ unit → unit < low + len → rank unit (range_with_len low len) ≡ unit - low
+rank-run low zero unit a b = absurd (omega arith)
+rank-run low (suc len) unit a b = elim (cases_eq low unit) [
+  | inl same ↦ cond-true (low == unit) 0 _ (eq-eqb low unit same) ∙ (let e : 0 ≡ unit - low = omega arith in e)
+  | inr other ↦ cond-false (low == unit) 0 _ (ne_eqb low unit other) ∙ ap (λ (k : ℕ). k + 1) (rank-run (low + 1) len unit (not_same low unit a other) (omega arith))
+      ∙ (let above : low + 1 ≤ unit = not_same low unit a other in let e : unit - (low + 1) + 1 ≡ unit - low = omega arith in e)
+]
+  where
+    not_same : (low unit : ℕ) → low ≤ unit → (low ≡ unit → ⊥) → low + 1 ≤ unit
+    not_same low unit a other = omega arith
+
+-- a unit that a run has
+pub run_has : (low high unit : ℕ) → has_unit (2 ^ high - 2 ^ low) unit ≡ true → (low ≤ unit) × (unit < high)
+run_has low high unit h = (
+  elim (cases_lt unit low) [ inl below ↦ absurd (let e = sym (unit_below low high unit below) ∙ h in false≢true e) | inr above ↦ above ],
+  elim (cases_lt unit high) [ inl inside ↦ inside | inr above ↦ absurd (let e = sym (unit_above low high unit above) ∙ h in false≢true e) ],
+)

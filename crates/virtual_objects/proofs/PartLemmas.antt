@@ -1,5 +1,5 @@
 -- The parts of a job in some rows of an object.
-use Rattle.std.proofs.Common.{◌≡◌, ◌∙◌, sym, ap, refl, subst, ℕ, zero, suc, ◌+◌, ◌-◌, ◌*◌, ◌/◌, ◌%◌, ◌<◌, ◌≤◌, min, max, arith, List, [], ◌∷◌, ◌++◌, map, length, get_or, All, sum_by, Option, Some, slice_get, flat_map}
+use Rattle.std.proofs.Common.{◌≡◌, ◌∙◌, sym, ap, refl, subst, ℕ, zero, suc, ◌+◌, ◌-◌, ◌*◌, ◌/◌, ◌%◌, ◌<◌, ◌≤◌, min, max, arith, true, List, [], ◌∷◌, ◌++◌, map, length, get_or, All, sum_by, Option, Some, slice_get, flat_map}
 use Rattle.std.specs.List.{range_with_len}
 use Rattle.std.proofs.lemmas.List.{append-nil, map-append}
 use Rattle.std.proofs.lemmas.List.Sums.{sum_by-cons}
@@ -9,9 +9,10 @@ use Rattle.std.proofs.lemmas.Nat.{div-mul-add, mod-mul-add, mul-le}
 use Rattle.raid_base.specs.declared.numbers.RowNo.{RowNo}
 use Rattle.raid_base.specs.declared.jobs.RowPart.{RowPart}
 use Rattle.stripe_layout.specs.Placement.{units_in}
-use Rattle.virtual_objects.specs.Objects.{part_at, parts_from, placed_in}
+use Rattle.raid_base.specs.Cells.{has_unit}
+use Rattle.virtual_objects.specs.Objects.{part_at, parts_from, placed_in, rank}
 use Rattle.virtual_objects.specs.RowParts.{part_rows, part_places, IsPart, AreInTurn}
-use Rattle.virtual_objects.proofs.MaskLemmas.{range-split, units_of_run, run_within}
+use Rattle.virtual_objects.proofs.MaskLemmas.{range-split, units_of_run, run_within, rank-run, run_has}
 
 -- Some of a job's blocks stand in the row at an index, d blocks a row: the job has those from first on and before last.
 pub record Meets (d first last index : ℕ) : Type 0 where
@@ -232,3 +233,29 @@ each-placed n d first last index rows row (next ∷ rs) e s at =
     All-cons (HasPlaces n d first rows) (part_at d first last index row) (parts_from d first last (index + 1) (next ∷ rs))
     (part_placed n d first last index rows row e (meets d first last index _ s) (stands-head rows index row (next ∷ rs) at))
     (each-placed n d first last (index + 1) rows next rs e (spans-next d first last index _ s) (stands-tail rows index row (next ∷ rs) at))
+
+-- where the block of a unit stands
+abbrev pub HasRanks : ℕ → ℕ → ℕ → List RowNo → RowPart → Type 0
+HasRanks n d first rows part = (unit : ℕ) → has_unit part.mask unit ≡ true
+    → placed_in d (first + (part.at + rank unit (units_in n part.mask))) (slice_get rows ((first + (part.at + rank unit (units_in n part.mask))) / d)) ≡ Some (part.row, unit)
+
+pub part_ranked : (n d first last index : ℕ) (rows : List RowNo) (row : RowNo) → n - 1 ≡ d → Meets d first last index → slice_get rows index ≡ Some row → HasRanks n d first rows (part_at d first last index row)
+part_ranked n d first last index rows row e m at = λ unit has.
+    let l = lies d first last index m in
+    let inside = run_has (max first (index * d) - index * d) (min last (index * d + d) - index * d) unit has in
+    let place : rank unit (units_in n (part_at d first last index row).mask) ≡ unit - (max first (index * d) - index * d) =
+    ap (rank unit) (part_units n d first last index row e m)
+    ∙ rank-run (max first (index * d) - index * d) _ unit inside.0 (let i = inside.1 in omega arith) in
+    let block : first + ((max first (index * d) - first) + rank unit (units_in n (part_at d first last index row).mask)) ≡ index * d + unit = (let i = inside.0 in omega arith) in
+    ap (λ (b : ℕ). placed_in d b (slice_get rows (b / d))) block
+    ∙ placed_at d index (index * d + unit) rows row (omega arith) (let i = inside.1 in omega arith) at
+    ∙ ap (λ (u : ℕ). Some (row, u)) (let x : index * d + unit - index * d ≡ unit = omega arith in x)
+
+pub each-ranked : (n d first last index : ℕ) (rows : List RowNo) (row : RowNo) (rs : List RowNo) → n - 1 ≡ d → Spans d first last index (length rs) → StandsAt rows index (row ∷ rs)
+    → All (HasRanks n d first rows) (parts_from d first last index (row ∷ rs))
+each-ranked n d first last index rows row [] e s at =
+    All-cons (HasRanks n d first rows) (part_at d first last index row) [] (part_ranked n d first last index rows row e (meets d first last index _ s) (stands-head rows index row [] at)) (All-nil (HasRanks n d first rows))
+each-ranked n d first last index rows row (next ∷ rs) e s at =
+    All-cons (HasRanks n d first rows) (part_at d first last index row) (parts_from d first last (index + 1) (next ∷ rs))
+    (part_ranked n d first last index rows row e (meets d first last index _ s) (stands-head rows index row (next ∷ rs) at))
+    (each-ranked n d first last (index + 1) rows next rs e (spans-next d first last index _ s) (stands-tail rows index row (next ∷ rs) at))

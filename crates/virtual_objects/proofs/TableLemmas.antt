@@ -4,7 +4,7 @@ use Rattle.std.specs.List.{IsDistinct, list_any}
 use Rattle.std.specs.Cmp.Lexicographic.{nat_list_eq_equiv}
 use Rattle.std.proofs.lemmas.Bool.{or_cases, or_from}
 use Rattle.std.proofs.lemmas.List.{append-nil, map-append, length_push, length-append, length-map}
-use Rattle.std.proofs.lemmas.List.Elements.{All-push}
+use Rattle.std.proofs.lemmas.List.Elements.{All-push, All-cons, All-nil}
 use Rattle.std.proofs.lemmas.Grind.{flat_map-append}
 use Rattle.std.proofs.lemmas.Map.Keys.{IsDistinct-push}
 use Rattle.std.proofs.lemmas.Map.Steps.{length-le_from_distinct_below}
@@ -112,3 +112,15 @@ rows_among (object ∷ objects) name rows e = by (is_text object.name name) e (r
 pub rows_few : (table : ObjectTable) (name : Name) (rows : List RowNo) → AreObjects table → rows_of table.objects name ≡ Some rows → length rows ≤ table.rows
 rows_few table name rows are e =
     omega (arith, rows_among table.objects name rows e, length-le_from_distinct_below (held table.objects) table.rows are.rows_apart are.rows_below)
+
+each_among : (objects : List Object) (bound : ℕ) → length (held objects) ≤ bound → All (λ (object : Object). length object.rows ≤ bound) objects
+each_among [] bound h = All-nil (λ (object : Object). length object.rows ≤ bound)
+each_among (object ∷ objects) bound h =
+    let all : length (held (object ∷ objects)) ≡ length object.rows + length (held objects) =
+      length-append (numbers object.rows) (held objects) ∙ ap (λ n. n + length (held objects)) (length-map object.rows (λ (row : RowNo). row.0)) in
+    All-cons (λ (o : Object). length o.rows ≤ bound) object objects (omega arith) (each_among objects bound (omega arith))
+
+-- each object's rows are no more than there are
+pub each_few : (table : ObjectTable) → AreObjects table → All (λ (object : Object). length object.rows ≤ table.rows) table.objects
+each_few table are =
+    each_among table.objects table.rows (length-le_from_distinct_below (held table.objects) table.rows are.rows_apart are.rows_below)

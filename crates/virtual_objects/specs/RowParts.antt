@@ -1,11 +1,12 @@
 -- What the parts of a job are.
-use Rattle.std.specs.Prelude.{◌≡◌, ℕ, ◌+◌, ◌-◌, ◌^◌, ◌<◌, ◌≤◌, eqb, List, [], ◌∷◌, map, length, sum_by, slice_index_or, All, Some}
+use Rattle.std.specs.Prelude.{◌≡◌, ℕ, ◌+◌, ◌-◌, ◌^◌, ◌<◌, ◌≤◌, eqb, List, [], ◌∷◌, map, true, length, sum_by, slice_index_or, All, Some}
 use Rattle.std.specs.List.{flat_map, IsDistinct, range_with_len}
 use Rattle.raid_base.specs.declared.names.Name.{Name}
 use Rattle.raid_base.specs.declared.numbers.RowNo.{RowNo}
 use Rattle.raid_base.specs.declared.jobs.RowPart.{RowPart}
+use Rattle.raid_base.specs.Cells.{has_unit}
 use Rattle.stripe_layout.specs.Placement.{units_in}
-use Rattle.virtual_objects.specs.Objects.{Object, place}
+use Rattle.virtual_objects.specs.Objects.{Object, place, rank}
 use Rattle.virtual_objects.specs.Table.{numbers}
 
 abbrev pub part_rows : List RowPart → List RowNo
@@ -40,3 +41,4 @@ pub record ArePartsOf (n : ℕ) (objects : List Object) (name : Name) (first : �
   pub total : sum_by (λ (part : RowPart). part.count) parts ≡ count
   pub covers : map (λ at. Some at) (flat_map (part_places n) parts) ≡ map (λ block. place n objects (record { object = name; block = block })) (range_with_len first count)
   pub placed : All (λ (part : RowPart). (k : ℕ) → k < part.count → place n objects (record { object = name; block = first + part.at + k }) ≡ Some (part.row, slice_index_or (units_in n part.mask) k 0)) parts
+  pub ranked : All (λ (part : RowPart). (unit : ℕ) → has_unit part.mask unit ≡ true → place n objects (record { object = name; block = first + (part.at + rank unit (units_in n part.mask)) }) ≡ Some (part.row, unit)) parts

@@ -142,7 +142,13 @@ mod tests {
         rows
     }
 
-    fn add(rt: &impl Abort, alloc: Global, objects: &mut Objects, text: &[u8], numbers: &[u16]) -> Result<(), ObjectFault> {
+    fn add(
+        rt: &impl Abort,
+        alloc: Global,
+        objects: &mut Objects,
+        text: &[u8],
+        numbers: &[u16],
+    ) -> Result<(), ObjectFault> {
         let rows = rows(rt, alloc, numbers);
         assert!(rt; !rows.is_empty());
         let bound = objects.rows();
@@ -169,7 +175,15 @@ mod tests {
         let want = [(3, 0b1000, 0, 1), (0, 0b1111, 1, 4), (2, 0b0001, 5, 1)];
         assert_eq!(rt; parts.len(), 3);
         for (part, (row, mask, at, count)) in parts.iter().zip(want) {
-            assert_eq!(rt; *part, RowPart { row: RowNo(row), mask, at, count });
+            assert_eq!(rt;
+                *part,
+                RowPart {
+                    row: RowNo(row),
+                    mask,
+                    at,
+                    count
+                }
+            );
         }
     }
 }

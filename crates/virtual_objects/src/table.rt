@@ -125,6 +125,7 @@ impl Objects {
     pub fn as_slice(&self) -> &[Object]
         ensures value { result.now ≡ self.now.objects }
         ensures objects { AreObjects self.now }
+        ensures few { All (λ object. length object.rows ≤ self.now.rows) self.now.objects }
     {
         self.objects.as_slice()
     }
