@@ -1,7 +1,10 @@
 pub mod Names
 pub mod Numbers
+pub mod Least
 pub mod Cells
 pub mod Replies
+pub mod Counts
+pub mod Streams
 pub mod Fits
 pub mod Steps
 pub mod First

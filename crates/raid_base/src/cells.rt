@@ -1,4 +1,6 @@
 //! What a slot keeps, and what a host makes of it.
+ghost use Rattle.std.specs.Prelude.{◌≡◌};
+ghost use Rattle.raid_base.specs.Cells.{content_of};
 
 /// A block with its mark.
 ///
@@ -22,4 +24,15 @@ pub enum Content {
 pub enum Shown {
     Seen(Content),
     Hidden,
+}
+
+/// The content that a cell stands for: `Lost` exactly where its mark isn't 0, and else its bytes.
+pub fn content_of(cell: &Cell) -> Content
+    ensures { result ≡ content_of cell.now }
+{
+    if cell.lost == 0 {
+        Content::Bytes(cell.bytes)
+    } else {
+        Content::Lost
+    }
 }

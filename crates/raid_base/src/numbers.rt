@@ -1,4 +1,13 @@
 //! Hosts, bays, rows, and the numbers by which attempts are ordered.
+ghost use Rattle.std.specs.Prelude.{◌≡◌, ◌<◌, ◌^◌, ◌↔◌, IfSome, IsNone};
+ghost use Rattle.raid_base.specs.Numbers.{least_above, next_number};
+ghost use Rattle.raid_base.specs.Least.{IsLeastAbove, IsSpentAbove};
+
+/// Every number is below this.
+pub const NUMBERS_END: u64 = 1 << 62;
+
+/// How many hosts share the numbers.
+const HOSTS: u64 = 16;
 
 /// A host, below 16. Host 0 is the operator.
 #[derive(Clone, Copy, Debug, Default, PartialEq, Eq)]
@@ -22,4 +31,62 @@ pub struct Number(pub u64);
 #[derive(Clone, Copy, Debug, PartialEq, Eq)]
 pub struct Spent {
     pub seen: Number,
+}
+
+/// The least number above the floor that leaves this host when divided by 16, be it too great or not.
+fn least_above(host: u8, floor: u64) -> u64
+    requires host { host < 16 }
+    requires floor { floor < 2 ^ 62 }
+    ensures { result ≡ least_above host floor }
+{
+    let round = HOSTS * (floor / HOSTS);
+    if floor % HOSTS < host as u64 {
+        round + host as u64
+    } else {
+        round + HOSTS + host as u64
+    }
+}
+
+/// The least number above the floor that leaves this host when divided by 16, or `None` where that is no number any more.
+pub fn next_number(host: HostNo, floor: Number) -> Option<Number>
+    requires { host.0 < 16 }
+    ensures value { result ≡ next_number host floor }
+    ensures least { IfSome result (λ n. IsLeastAbove host.0 floor.0 n.0) }
+    ensures below { IfSome result (λ n. n.0 < 2 ^ 62) }
+    ensures spent { IsNone result ↔ IsSpentAbove host.0 floor.0 }
+{
+    if floor.0 >= NUMBERS_END {
+        return None;
+    }
+    let next = least_above(host.0, floor.0);
+    if next < NUMBERS_END {
+        Some(Number(next))
+    } else {
+        None
+    }
+}
+
+#[cfg(test)]
+mod tests {
+    use super::*;
+
+    #[test]
+    fn next_numbers(rt: HostRuntime) {
+        let cases = [
+            (3, 18, Some(19)),
+            (3, 19, Some(35)),
+            (0, 0, Some(16)),
+            (1, 0, Some(1)),
+            (15, 0, Some(15)),
+            (1, NUMBERS_END - 16, Some(NUMBERS_END - 15)),
+            (1, NUMBERS_END - 15, None),
+            (0, NUMBERS_END - 16, None),
+            (7, u64::MAX, None),
+        ];
+        for (host, floor, next) in cases {
+            if host < 16 {
+                assert_eq!(rt; next_number(HostNo(host), Number(floor)), next.map(Number));
+            }
+        }
+    }
 }

@@ -1,0 +1,39 @@
+//! The exclusive-or of blocks, by which a row's parity tells a missing unit.
+#![tactic(auto)]
+
+ghost use Rattle.std.specs.Prelude.{◌≡◌};
+ghost use Rattle.raid_xor.specs.Sums.{xor_of, sum_of};
+ghost use Rattle.raid_xor.specs.Laws.{Commutes, Associates, HasZero, IsSelfInverse, MakesBlocks, SumsAdd};
+
+use raid_base::Cell;
+use std::simd::prelude::*;
+
+/// Adds `from` to `to`, byte by byte.
+pub fn xor_into(to: &mut [u8; 64], from: &[u8; 64])
+    ensures { to.new ≡ xor_of to.old from.now }
+{
+    let sum = u8x64::from_array(*to) ^ u8x64::from_array(*from);
+    *to = sum.to_array();
+}
+
+/// The sum of the cells' bytes, zeros where there is no cell.
+pub fn sum_of(cells: &[Cell]) -> [u8; 64]
+    ensures { result ≡ sum_of cells.now }
+{
+    let mut sum = [0; 64];
+    for cell in cells {
+        xor_into(&mut sum, &cell.bytes);
+    }
+    sum
+}
+
+/// The exclusive-or of blocks is a sum in which each block is its own opposite.
+pub fn blocks_add_up()
+    ensures commutes { Commutes }
+    ensures associates { Associates }
+    ensures zero { HasZero }
+    ensures inverse { IsSelfInverse }
+    ensures blocks { MakesBlocks }
+    ensures sums { SumsAdd }
+{
+}
