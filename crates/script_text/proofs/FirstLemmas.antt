@@ -1,14 +1,13 @@
 -- The text of a script of the first form.
-use Rattle.std.proofs.Common.{◌≡◌, ℕ, ◌+◌, ◌<◌, ◌^◌, Bool, true, List, [], ◌∷◌, ◌++◌, length, sym, ◌∙◌, ap, refl, arith, decimal, append_assoc, lit<}
-use Rattle.std.specs.Prelude.{codes, ◌↔◌}
-use Rattle.std.specs.List.{before_first, after_first}
-use Rattle.std.proofs.lemmas.List.{append-nil}
+use Rattle.std.proofs.Common.{◌≡◌, ℕ, ◌<◌, ◌^◌, List, [], ◌∷◌, ◌++◌, ◌∙◌, ap, refl, arith, decimal, lit<}
+use Rattle.std.specs.Prelude.{codes}
+use Rattle.std.specs.List.{before_first}
 use Rattle.std.proofs.lemmas.Fmt.{decimal_digit}
 use Rattle.text_lines.specs.Blocks.{block_text}
 use Rattle.text_lines.specs.Lines.{is_separator, behind_words}
 use Rattle.text_lines.proofs.WordLemmas.{IsWord, front_word, after_word, IsWord-decimal, IsWord-name, IsWord-block}
 use Rattle.script_text.specs.declared.first.FirstForm.{FirstForm}
-use Rattle.script_text.specs.First.{AreInRange, HasFields, IsForm, script_of}
+use Rattle.script_text.specs.First.{HasFields, IsForm, script_of}
 use Rattle.script_text.specs.declared.first.Fields.{Fields}
 use Rattle.script_text.specs.Text.{script_text, script_lines}
 use Rattle.text_lines.proofs.LineLemmas.{lines_are}

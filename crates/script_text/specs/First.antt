@@ -1,11 +1,13 @@
 -- Scripts of the first form: one host writes a block of one object on three devices, and reads it.
-use Rattle.std.specs.Prelude.{◌≡◌, ℕ, ◌^◌, ◌<◌, ◌≤◌, List, [], ◌∷◌, None, decimal}
+use Rattle.std.specs.Prelude.{◌≡◌, ◌^◌, ◌<◌, ◌≤◌, List, [], ◌∷◌, None, decimal}
 use Rattle.raid_base.specs.declared.messages.Mode.TheVariants.{Order}
+use Rattle.raid_base.specs.declared.jobs.Job.{Job}
 use Rattle.raid_base.specs.declared.jobs.Task.TheVariants.{Read, Write}
 use Rattle.raid_base.specs.Names.{IsNameText}
 use Rattle.text_lines.specs.Blocks.{IsBlock, block_text}
 use Rattle.script_text.specs.declared.first.FirstForm.{FirstForm}
 use Rattle.script_text.specs.declared.first.Fields.{Fields}
+use Rattle.virtual_objects.specs.Objects.{Object}
 use Rattle.script_text.specs.Script.{Script}
 
 -- the ranges of the numbers that are free in such a script; its object has two blocks
@@ -22,6 +24,17 @@ pub record IsForm (form : FirstForm) : Type 0 where
   pub name : IsNameText form.name
   pub block : IsBlock form.block
 
+-- one object, of one row
+abbrev pub objects_of : FirstForm → List Object
+objects_of form = record { name = form.name; rows = record { 0 = 0 } ∷ [] } ∷ []
+
+-- a block of it is written, and read
+abbrev pub jobs_of : FirstForm → List Job
+jobs_of form =
+    record { task = Write form.name form.first 0 1; quit = None }
+    ∷ record { task = Read form.name form.first 1; quit = None }
+    ∷ []
+
 abbrev pub script_of : FirstForm → Script
 script_of form = record {
   n = 3;
@@ -29,16 +42,8 @@ script_of form = record {
   mode = Order;
   patience = form.patience;
   tries = form.tries;
-  objects = record { name = form.name; rows = record { 0 = 0 } ∷ [] } ∷ [];
-  hosts =
-      record {
-        host = record { 0 = form.host };
-        jobs =
-            record { task = Write form.name form.first 0 1; quit = None }
-            ∷ record { task = Read form.name form.first 1; quit = None }
-            ∷ [];
-      }
-      ∷ [];
+  objects = objects_of form;
+  hosts = record { host = record { 0 = form.host }; jobs = jobs_of form } ∷ [];
   blocks = form.block ∷ [];
   turns = [];
 }

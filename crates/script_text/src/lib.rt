@@ -2,3 +2,9 @@
 #![tactic(auto)]
 
 mod first;
+mod script;
+#[cfg(test)]
+mod tests;
+
+pub use first::read_first;
+pub use script::{HostJobs, MAX_HOSTS, Script};

@@ -122,3 +122,54 @@ impl Objects {
         Some((*row, (block % units) as u8))
     }
 }
+
+#[cfg(test)]
+mod tests {
+    use super::*;
+    use crate::table::ObjectFault;
+    use std::alloc::Global;
+    use std::process::Abort;
+
+    fn name(rt: &impl Abort, text: &[u8]) -> Name {
+        Name::new(text).expect(rt, "a name")
+    }
+
+    fn rows(rt: &impl Abort, alloc: Global, numbers: &[u16]) -> Vec<RowNo> {
+        let mut rows = Vec::new(alloc);
+        for number in numbers {
+            assert!(rt; rows.push(RowNo(*number)).is_ok());
+        }
+        rows
+    }
+
+    fn add(rt: &impl Abort, alloc: Global, objects: &mut Objects, text: &[u8], numbers: &[u16]) -> Result<(), ObjectFault> {
+        let rows = rows(rt, alloc, numbers);
+        assert!(rt; !rows.is_empty());
+        let bound = objects.rows();
+        assert!(rt; rows.iter().all(|row| row.0 < bound));
+        objects.add(name(rt, text), &rows)
+    }
+
+    #[test]
+    fn adds_and_parts_of_five_devices(rt: HostRuntime) {
+        let mut objects = Objects::make(rt.alloc(), 5, 6).expect(&rt, "memory");
+        for (text, numbers, want) in [
+            (b"a", [3, 0, 2], Ok(())),
+            (b"a", [1, 4, 5], Err(ObjectFault::NameUsed)),
+            (b"b", [1, 4, 0], Err(ObjectFault::RowUsed { row: RowNo(0) })),
+            (b"b", [1, 5, 1], Err(ObjectFault::RowUsed { row: RowNo(1) })),
+            (b"b", [5, 1, 4], Ok(())),
+        ] {
+            assert_eq!(rt; add(&rt, rt.alloc(), &mut objects, text, &numbers), want);
+        }
+        assert_eq!(rt; objects.place(&name(&rt, b"a"), 6), Some((RowNo(0), 2)));
+        assert_eq!(rt; objects.place(&name(&rt, b"a"), 12), None);
+        assert_eq!(rt; objects.place(&name(&rt, b"c"), 0), None);
+        let parts = objects.parts(&name(&rt, b"a"), 3, 6).expect(&rt, "parts");
+        let want = [(3, 0b1000, 0, 1), (0, 0b1111, 1, 4), (2, 0b0001, 5, 1)];
+        assert_eq!(rt; parts.len(), 3);
+        for (part, (row, mask, at, count)) in parts.iter().zip(want) {
+            assert_eq!(rt; *part, RowPart { row: RowNo(row), mask, at, count });
+        }
+    }
+}
