@@ -41,32 +41,7 @@ found-later host hosts i x h e t =
 pub found-none : (host : HostNo) (hosts : List HostJobs) (i : ℕ) → length hosts ≤ i → jobs_in (find (is_of host) (drop i hosts)) ≡ []
 found-none host hosts i h = at_drop_all (λ hs. jobs_in (find (is_of host) hs)) hosts i h
 
--- the jobs of a script are short
-short-task : (script : Script) (host : HostNo) (task : Task) → IsTask script host task → task_blocks task ≤ 120
-short-task script host (Read object first count) h = h.few
-short-task script host (Write object first from count) h = h.few
-short-task script host (Recover row) h = omega arith
-short-task script host (Lose bay) h = omega arith
-short-task script host (Fit bay) h = omega arith
-short-task script host (Rebuild bay) h = omega arith
-
-abbrev IsShort : Job → Type 0
-IsShort job = task_blocks job.task ≤ 120
-
-short-choice : (b : Bool) (h : HostJobs) (rest : Option HostJobs) → All IsShort h.jobs → All IsShort (jobs_in rest) → All IsShort (jobs_in (cond b (Some h) rest))
-short-choice true h rest here later = here
-short-choice false h rest here later = later
-
-short-found : (script : Script) (host : HostNo) (hosts : List HostJobs) → All (λ (h : HostJobs). All (IsJob script h.host) h.jobs) hosts → All IsShort (jobs_in (find (is_of host) hosts))
-short-found script host [] a = λ k d l. absurd (omega arith)
-short-found script host (h ∷ hosts) a =
-    short-choice (is_of host h) h (find (is_of host) hosts)
-    (λ k d l. short-task script h.host (get_or h.jobs k d).task (a 0 h (omega arith) k d l).task)
-    (short-found script host hosts (λ k d l. a (suc k) d (omega arith)))
-
-pub short-job : (script : Script) (host : HostNo) (i : ℕ) (job : Job) → IsScript script → i < length (jobs_of script host) → job ≡ get_or (jobs_of script host) i job → task_blocks job.task ≤ 120
-short-job script host i job s h e = let P : Job → Type 0 = IsShort in subst P (sym e) (short-found script host script.hosts s.jobs i job h)
-
+-- a job that is not there
 pub none-got : (jobs : List Job) (i : ℕ) → length jobs ≤ i → slice_get jobs i ≡ None
 none-got [] i h = refl
 none-got (j ∷ jobs) zero h = absurd (omega arith)

@@ -1,6 +1,5 @@
 //! The report of a finished array.
 ghost use Rattle.std.specs.Prelude.{◌≡◌, ◌<◌, ◌-◌};
-ghost use Rattle.script_text.specs.Ranges.{IsScript};
 ghost use Rattle.report_text.specs.Appends.{Appends};
 ghost use Rattle.report_text.specs.Report.{report_text};
 ghost use Rattle.report_text.specs.Rows.{shown_in};
@@ -40,7 +39,6 @@ pub fn shown(view: &Final<'_>, row: RowNo, unit: u8) -> Shown
 
 /// Appends the text of the report. Where that fails, the sink has failed, and a first part of the text was appended.
 pub fn write_report<K: Sink>(sink: &mut K, view: &Final<'_>) -> Result<(), Failed>
-    requires { IsScript view.now.script.now }
     ensures { let report = report_in view.now.script.now view.now.results.now view.now.contents.now view.now.turns.now view.now.cells.now view.now.opened.now in Appends K.tells K.written K.faults sink.old (report_text report) result sink.new }
 {
     put_line(sink, b"report", &[b"1"])?;
