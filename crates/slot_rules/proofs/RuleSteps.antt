@@ -1,6 +1,5 @@
 -- What a request does to its slot: numbers rise, notes come of claims, readers stand.
-use Rattle.std.proofs.Common.{◌≡◌, ℕ, ◌≤◌, ◌||◌, ◌&&◌, Bool, true, false, if◌then◌else◌, not, nat_lt, List, [], find, Option, Some, None, is_some, is_none, refl, sym, ap, ◌∙◌, arith}
-use Rattle.std.proofs.lemmas.Bool.Decides.{nat_tests}
+use Rattle.std.proofs.Common.{◌≡◌, ℕ, ◌≤◌, ◌||◌, ◌&&◌, Bool, true, false, if◌then◌else◌, not, nat_lt, find, Option, Some, None, is_some, refl, sym, ap, ◌∙◌, arith}
 use Rattle.raid_base.specs.declared.cells.Cell.{Cell}
 use Rattle.raid_base.specs.declared.numbers.Number.{Number}
 use Rattle.raid_base.specs.declared.numbers.RowNo.{RowNo}
@@ -17,8 +16,8 @@ use Rattle.raid_base.specs.declared.messages.Request.TheVariants.{Share, Claim, 
 use Rattle.raid_base.specs.Numbers.{greater}
 use Rattle.slot_rules.specs.declared.Reader.{Reader}
 use Rattle.slot_rules.specs.Slots.{Slot, Bay, reader_note}
-use Rattle.slot_rules.specs.Rules.{SlotOutcome, keeps, reads, wanted_cell, granted, slot_floor, missing_floor, is_reader, note_id, is_same_host, may_seize, young_note, other_readers, share_lock, share_granted_lock, share_order, share_unnoted, share_granted_order, share_by, share_at, share_rule, claim_granted, claim_free, claim_noted, claim_at, is_late, seize_granted, seize_unread, seize_blank, seize_noted, seize_rule, claim_rule, confirm_missing, confirm_rule, put_done, put_rule, read_at, release_reader, release_rule}
-use Rattle.slot_rules.specs.Laws.{IsStep, is_refused, read_number, granted_read, order_read, claimed_note, shown_life, NoteComes}
+use Rattle.slot_rules.specs.Rules.{SlotOutcome, keeps, reads, wanted_cell, slot_floor, missing_floor, is_reader, note_id, is_same_host, may_seize, young_note, share_lock, share_granted_lock, share_order, share_unnoted, share_granted_order, share_by, share_at, share_rule, claim_granted, claim_noted, claim_at, is_late, seize_granted, seize_unread, seize_blank, seize_noted, claim_rule, confirm_missing, confirm_rule, put_done, put_rule, read_at, release_reader, release_rule}
+use Rattle.slot_rules.specs.Laws.{IsStep, is_refused, claimed_note, shown_life}
 
 -- a step of a bay
 abbrev Steps : Bay → Ask → Request → Slot → SlotOutcome → Type 0

@@ -1,5 +1,6 @@
 -- The laws of one bay.
-use Rattle.std.specs.Prelude.{◌≡◌, ℕ, ◌+◌, ◌<◌, ◌≤◌, ◌||◌, not, Bool, true, false, if◌then◌else◌, List, [], ◌∷◌, find, slice_set, Option, Some, None, is_some}
+use Rattle.std.specs.Prelude.{◌≡◌, ℕ, ◌+◌, ◌<◌, ◌≤◌, ◌==◌, ◌||◌, ◌⊎◌, not, Bool, true, false, if◌then◌else◌, List, [], ◌∷◌, length, find, slice_set, Option, Some, None, is_some}
+use Rattle.std.specs.List.{AllByRecursion}
 use Rattle.raid_base.specs.declared.numbers.Number.{Number}
 use Rattle.raid_base.specs.declared.numbers.RowNo.{RowNo}
 use Rattle.raid_base.specs.declared.messages.Mode.{Mode}
@@ -11,10 +12,14 @@ use Rattle.raid_base.specs.declared.messages.Ask.{Ask}
 use Rattle.raid_base.specs.declared.messages.Reply.{Reply}
 use Rattle.raid_base.specs.declared.messages.Reply.TheVariants.{Granted, Busy, Late, Young, Missing, Held, NoNote, Done, Fault, Emptied, Fitted}
 use Rattle.raid_base.specs.declared.messages.Request.{Request}
-use Rattle.raid_base.specs.declared.messages.Request.TheVariants.{Share, Claim, Put, Release}
+use Rattle.raid_base.specs.declared.messages.Request.TheVariants.{Share, Claim, Put, Release, Lose}
+use Rattle.raid_base.specs.declared.messages.Entry.{Entry}
 use Rattle.raid_base.specs.Fits.{fits}
 use Rattle.raid_base.specs.Replies.{is_fault}
-use Rattle.slot_rules.specs.Slots.{Slot, Bay, slot_of}
+use Rattle.slot_rules.specs.declared.Reader.{Reader}
+use Rattle.slot_rules.specs.Slots.{Slot, Bay, first_bay, slot_of}
+use Rattle.slot_rules.specs.Replay.{Replays}
+use Rattle.slot_rules.specs.Serving.{row_of}
 use Rattle.slot_rules.specs.Rules.{note_id, is_reader, rule}
 
 -- the reply always fits the request
@@ -152,3 +157,102 @@ pub record IsStep (mode : Mode) (life : ℕ) (ask : Ask) (what : Request) (slot 
   pub life_shown : (l : ℕ) → shown_life reply ≡ Some l → l ≡ life
   pub note_comes : (note : Note) → left.note ≡ Some note → NoteComes ask what reply slot.note note
   pub readers_stand : ReadersStand what reply slot left
+
+-- whether a request is for this row
+abbrev pub is_row : RowNo → Option RowNo → Bool
+is_row row None = false
+is_row row (Some r) = r.0 == row.0
+
+-- a request of a row does to its slot what these steps allow
+abbrev pub SlotsStep : Type 0
+SlotsStep =
+    (bay : Bay) (ask : Ask) (fails : Bool) (row : RowNo) → row_of ask.what ≡ Some row → row.0 < length bay.slots →
+    IsStep bay.mode bay.life ask ask.what (slot_of bay row) (rule bay ask fails).reply (slot_of (rule bay ask fails).bay row)
+
+-- how often these entries lose a device
+abbrev pub loses : Bay → Request → ℕ
+loses bay Lose = if bay.empty then 0 else 1
+loses bay _ = 0
+
+abbrev pub losses : Bay → List Entry → ℕ
+losses bay [] = 0
+losses bay (entry ∷ entries) = loses bay entry.ask.what + losses (rule bay entry.ask (is_fault entry.reply)).bay entries
+
+-- a life that is shown later is the one that was shown before, and as many as devices were lost in between:
+-- so the two differ exactly where one was
+abbrev pub LivesTellLosses : Type 0
+LivesTellLosses =
+    (bay : Bay) (ask : Ask) (fails : Bool) (clock : ℕ) (between : List Entry) (bay' : Bay) (clock' : ℕ) (ask' : Ask) (fails' : Bool) (life life' : ℕ) →
+    shown_life (rule bay ask fails).reply ≡ Some life → Replays (rule bay ask fails).bay clock between bay' clock' →
+    shown_life (rule bay' ask' fails').reply ≡ Some life' → life' ≡ life + losses (rule bay ask fails).bay between
+
+-- an entry by which a note was opened that has come to be this one: a granted claim that seized none, with the note's origin as its id, and the note's mask
+abbrev pub seized_of : Reply → Option (Option Note)
+seized_of (Granted cell read_no write_no last life seized) = Some seized
+seized_of _ = None
+
+pub record Opens (row : RowNo) (origin : Number) (mask : ℕ) (ask : Ask) (reply : Reply) : Type 0 where
+  pub how : How
+  pub want : Bool
+  pub asked : ask.what ≡ Claim row origin how mask want
+  pub granted : seized_of reply ≡ Some None
+
+abbrev pub SomeEntry : (Entry → Type 0) → List Entry → Type 0
+SomeEntry P [] = ⊥
+SomeEntry P (entry ∷ entries) = P entry ⊎ SomeEntry P entries
+
+-- an open note has the origin and the mask of a granted claim
+abbrev pub NotesHaveOrigins : Type 0
+NotesHaveOrigins =
+    (mode : Mode) (rows patience : ℕ) (entries : List Entry) (bay : Bay) (clock : ℕ) (row : RowNo) (note : Note) → row.0 < rows →
+    Replays (first_bay mode rows patience) 0 entries bay clock → (slot_of bay row).note ≡ Some note →
+    SomeEntry (λ entry. Opens row note.origin note.mask entry.ask entry.reply) entries
+
+-- the numbers under which a slot was read and written, the first of them first
+abbrev pub with_some : Option Number → List Number → List Number
+with_some None numbers = numbers
+with_some (Some n) numbers = n ∷ numbers
+
+abbrev pub read_in : RowNo → Bay → Request → Reply → Option Number
+read_in row bay what reply = if is_row row (row_of what) then read_number bay.mode (slot_of bay row).note what reply else None
+
+abbrev pub written_in : RowNo → Request → Reply → Option Number
+written_in row what reply = if is_row row (row_of what) then write_number what reply else None
+
+abbrev pub reads_shown : RowNo → Bay → List Entry → List Number
+reads_shown row bay [] = []
+reads_shown row bay (entry ∷ entries) =
+    with_some (read_in row bay entry.ask.what entry.reply) (reads_shown row (rule bay entry.ask (is_fault entry.reply)).bay entries)
+
+abbrev pub writes_shown : RowNo → List Entry → List Number
+writes_shown row [] = []
+writes_shown row (entry ∷ entries) = with_some (written_in row entry.ask.what entry.reply) (writes_shown row entries)
+
+-- a number is covered: by the bay's high number always, and by the slot's number while its device is there
+abbrev pub CoversRead : Bay → RowNo → Number → Type 0
+CoversRead bay row n = (n.0 ≤ bay.high.0) × (bay.empty ≡ false → n.0 ≤ (slot_of bay row).read_no.0)
+
+abbrev pub CoversWrite : Bay → RowNo → Number → Type 0
+CoversWrite bay row n = (n.0 ≤ bay.high.0) × (bay.empty ≡ false → n.0 ≤ (slot_of bay row).write_no.0)
+
+abbrev pub NumbersAreCovered : Type 0
+NumbersAreCovered =
+    (mode : Mode) (rows patience : ℕ) (entries : List Entry) (bay : Bay) (clock : ℕ) (row : RowNo) → row.0 < rows →
+    Replays (first_bay mode rows patience) 0 entries bay clock →
+    AllByRecursion (CoversRead bay row) (reads_shown row (first_bay mode rows patience) entries)
+    × AllByRecursion (CoversWrite bay row) (writes_shown row entries)
+
+-- while a reader stands no note opens but its own, or by a seizure, which removes all readers
+abbrev pub ReadersHoldOffNotes : Type 0
+ReadersHoldOffNotes =
+    (bay : Bay) (ask : Ask) (fails : Bool) (row : RowNo) (reader : Reader) (note : Note) → row.0 < length bay.slots →
+    (slot_of bay row).note ≡ None → find (is_reader reader.id) (slot_of bay row).readers ≡ Some reader →
+    (slot_of (rule bay ask fails).bay row).note ≡ Some note →
+    (note.id ≡ reader.id) ⊎ ((slot_of (rule bay ask fails).bay row).readers ≡ [])
+
+-- a release that was done found a note or a reader of its id
+abbrev pub ReleasesFindHolders : Type 0
+ReleasesFindHolders =
+    (bay : Bay) (ask : Ask) (fails : Bool) (row : RowNo) (id : Number) (n : Option Number) → row.0 < length bay.slots →
+    ask.what ≡ Release row id n → (rule bay ask fails).reply ≡ Done →
+    (note_id (slot_of bay row).note id || is_some (find (is_reader id) (slot_of bay row).readers)) ≡ true
