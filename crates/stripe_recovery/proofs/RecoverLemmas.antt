@@ -4,7 +4,6 @@ use Rattle.std.proofs.lemmas.Bool.Decides.{nat_tests}
 use Rattle.raid_base.specs.declared.numbers.HostNo.{HostNo}
 use Rattle.raid_base.specs.declared.numbers.Number.{Number}
 use Rattle.raid_base.specs.declared.numbers.Spent.{Spent}
-use Rattle.raid_base.specs.declared.jobs.Cause.{Cause}
 use Rattle.raid_base.specs.declared.jobs.Cause.TheVariants as causes
 use Rattle.raid_base.specs.declared.jobs.Ended.{Ended}
 use Rattle.raid_base.specs.declared.messages.Reply.{Reply}
@@ -16,11 +15,10 @@ use Rattle.raid_base.specs.Steps.{Steps, Standing, next_errand, answer, stopped,
 use Rattle.raid_base.proofs.DrawLemmas.{settled-asks}
 use Rattle.raid_base.proofs.RunLemmas.{behind-run-some, behind-run-last, behind-run-none}
 use Rattle.attempts.specs.declared.Rescue.{Rescue}
-use Rattle.attempts.specs.Taking.{Finish, Row, Taken, refusal, with_grant, with_parity, with_wanted}
-use Rattle.attempts.specs.Releases.{releasing, end_as, refused_steps}
-use Rattle.attempts.specs.Mending.{put_cause}
-use Rattle.attempts.specs.Recovery.{Verdict, Leaves, Sums, verdict, unseized_data, unseized_parity, granted_data, give_back, parity_seized, parity_taken, units_seized, stays, recover_confirming, recover_confirmed, recover_drawn, recover_by, recover_refused, recover_putting, recover_put, closing}
-use Rattle.attempts.proofs.TakingLemmas.{taking-some, taking-last, taking-none, why-cause}
+use Rattle.attempts.specs.Taking.{Finish, Row, Taken, refusal, with_grant, with_wanted}
+use Rattle.attempts.specs.Releases.{releasing, end_as}
+use Rattle.attempts.specs.Recovery.{Verdict, Leaves, Sums, verdict, unseized_data, unseized_parity, granted_data, give_back, units_seized, stays, recover_confirming, recover_confirmed, recover_drawn, recover_by, recover_refused, recover_putting, recover_put, closing}
+use Rattle.attempts.proofs.TakingLemmas.{taking-last}
 use Rattle.stripe_recovery.specs.declared.stages.RecoverStage.{RecoverStage}
 use Rattle.stripe_recovery.specs.declared.stages.RecoverStage.TheVariants.{Parity, Units, Confirming, Putting, Closing, Releasing}
 use Rattle.stripe_recovery.specs.Stages.{is_kept, quit_end}
@@ -122,44 +120,18 @@ some-units t (x ∷ es) k = omega arith
 is-one : (n : ℕ) (b : Bool) → ((n == 1) && b) ≡ true → n ≡ 1
 is-one n b h = grind (arith, nat_tests)
 
-pub one-parity : (t : Taken) (es : List Errand) → is_kept Parity (length es) t ≡ true → length es ≡ 1
-one-parity t es k = is-one (length es) (length t.row.wanted == 0) k
-
 pub one-confirm : (t : Taken) (es : List Errand) → is_kept Confirming (length es) t ≡ true → length es ≡ 1
 one-confirm t es k = is-one (length es) (nat_le (length t.row.wanted) 16) k
 
 pub one-put : (n : Number) (lost : Option ℕ) (t : Taken) (es : List Errand) → is_kept (Putting n lost) (length es) t ≡ true → length es ≡ 1
 one-put n lost t es k = grind (arith, nat_tests)
 
--- the claim of the parity
-pub parity-kept : (r : Rescue) (t t' : Taken) (es : List Errand) (rep : Reply) (s' : Steps Finish)
-    → length es ≡ 1 → refusal None t.missing (first_errand es).bay rep ≡ None → t' ≡ with_grant with_parity t (first_errand es).bay (grant_of rep)
-    → s' ≡ parity_taken r t' t'.row.parity → s' ≡ behind (left_of Parity r t es) rep
-parity-kept r t t' es rep s' one why kept e =
-    e ∙ ap (λ u. parity_taken r u u.row.parity) kept ∙ sym (taking-last None with_parity es t (parity_seized r) rep one why)
-
-pub parity-refused : (r : Rescue) (t : Taken) (es : List Errand) (rep : Reply) (cause : Cause) (s' : Steps Finish)
-    → 0 < length es → refusal None t.missing (first_errand es).bay rep ≡ Some cause → s' ≡ recover_refused r t.row cause → s' ≡ behind (left_of Parity r t es) rep
-parity-refused r t es rep cause s' some why e =
-    e ∙ ap (recover_refused r t.row) (sym (why-cause None t (first_errand es) rep cause why)) ∙ sym (taking-none None with_parity es t (parity_seized r) rep cause some why)
-
--- the claim of a unit
-pub unit-kept : (r : Rescue) (t t' : Taken) (es es' : List Errand) (rep : Reply)
-    → 0 < length es → refusal None t.missing (first_errand es).bay rep ≡ None → t' ≡ with_grant with_wanted t (first_errand es).bay (grant_of rep)
-    → es' ≡ drop 1 es → left_of Units r t' es' ≡ behind (left_of Units r t es) rep
-unit-kept r t t' es es' rep some why kept more =
-    ap (λ xs. left_of Units r t' xs) more ∙ ap (λ u. left_of Units r u (drop 1 es)) kept ∙ sym (taking-some None with_wanted es t (units_seized r) rep some why)
-
+-- the claim of the last unit
 pub unit-last : (r : Rescue) (t t' : Taken) (es : List Errand) (rep : Reply) (s' : Steps Finish)
     → length es ≡ 1 → refusal None t.missing (first_errand es).bay rep ≡ None → t' ≡ with_grant with_wanted t (first_errand es).bay (grant_of rep)
     → s' ≡ units_seized r (Through t') → s' ≡ behind (left_of Units r t es) rep
 unit-last r t t' es rep s' one why kept e =
     e ∙ ap (λ u. units_seized r (Through u)) kept ∙ sym (taking-last None with_wanted es t (units_seized r) rep one why)
-
-pub unit-refused : (r : Rescue) (t : Taken) (es : List Errand) (rep : Reply) (cause : Cause) (s' : Steps Finish)
-    → 0 < length es → refusal None t.missing (first_errand es).bay rep ≡ Some cause → s' ≡ recover_refused r t.row cause → s' ≡ behind (left_of Units r t es) rep
-unit-refused r t es rep cause s' some why e =
-    e ∙ ap (recover_refused r t.row) (sym (why-cause None t (first_errand es) rep cause why)) ∙ sym (taking-none None with_wanted es t (units_seized r) rep cause some why)
 
 -- the parity is as before, and the number is drawn
 abbrev at : Number → Steps Finish → Standing Finish
@@ -193,14 +165,6 @@ put-done r t n lost es es' rep one done e =
     let u : Unit {0} = tt in
     ap (left_of (Closing n lost) r t) e
     ∙ sym (behind-run-last (recover_putting r lost) es u (recover_put r t.row n lost) rep u one (ap (λ b. if b then Some u else None) done))
-
-pub put-refused : (r : Rescue) (t : Taken) (n : Number) (lost : Option ℕ) (es : List Errand) (rep : Reply) (s' : Steps Finish)
-    → 0 < length es → is_done rep ≡ false → s' ≡ refused_steps (give_back r (unseized_data r t.row)) (put_cause r.row (first_errand es) rep)
-    → s' ≡ behind (left_of (Putting n lost) r t es) rep
-put-refused r t n lost es rep s' some other e =
-    let u : Unit {0} = tt in
-    let none : Option (Unit {0}) = None in
-    e ∙ sym (behind-run-none (recover_putting r lost) es u (recover_put r t.row n lost) rep some (ap (λ b. if b then Some u else none) other))
 
 -- releases that are done
 pub released-left : (r : Rescue) (t : Taken) (why : Ended) (es es' : List Errand) (rep : Reply) → 0 < length es → es' ≡ drop 1 es
