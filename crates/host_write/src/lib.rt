@@ -2,9 +2,15 @@
 #![tactic(auto)]
 
 pub mod blocks;
+pub mod answered;
 pub mod claims;
+pub mod confirms;
 pub mod parity;
 pub mod puts;
 pub mod putting;
 pub mod stages;
 pub mod troubles;
+pub mod write_try;
+
+pub use attempts::assignment::RowParts;
+pub use write_try::WriteTry;
