@@ -36,7 +36,7 @@ last-left a keep F t t' es r s' one why kept e =
     e
     ∙ ap (λ u. F (rest_of a u) (Through u)) kept
     ∙ ap (λ before. F (claim_rows a (drop (length before + 1) a.parts)) (Through (with_grant keep t (first_errand es).bay (grant_of r))))
-      (before-kept keep t (first_errand es).bay (grant_of r))
+    (before-kept keep t (first_errand es).bay (grant_of r))
     ∙ sym (taking-last (behind_from a.mode a.id) keep es t (F (rest_of a t)) r one why)
 
 module _ (a : Access) (t : Taken) (rows : List Row) (puts : Puts) (es : List Errand) (r : Reply) where
@@ -50,7 +50,7 @@ module _ (a : Access) (t : Taken) (rows : List Row) (puts : Puts) (es : List Err
       ∙ ap (λ xs. confirm_rows a t.before (drop (length xs) t.before) (confirmed_so_far t xs)) more
       ∙ ap (λ k. confirm_rows a t.before (drop k t.before) (confirmed_so_far t (rows ++ row ∷ []))) (length_push rows row)
       ∙ sym (behind-run-last (confirming a (row_at t.before (length rows))) es (confirmed_so_far t rows) (row_confirmed a t.before (row_at t.before (length rows)) (confirms_of a t (length rows))) r (confirmed_so_far t (rows ++ row ∷ [])) one
-        (ap (λ o. option_map (λ (x : Row). confirmed_so_far t (rows ++ x ∷ [])) o) held))
+      (ap (λ o. option_map (λ (x : Row). confirmed_so_far t (rows ++ x ∷ [])) o) held))
 
   -- a row is not
   pub unconfirmed-left : (cause : Cause) (s' : Steps Outcome) → 0 < length es
@@ -62,7 +62,7 @@ module _ (a : Access) (t : Taken) (rows : List Row) (puts : Puts) (es : List Err
       e
       ∙ ap (refused_steps (write_releases a t.before)) why
       ∙ sym (behind-run-none (confirming a (row_at t.before (length rows))) es (confirmed_so_far t rows) (row_confirmed a t.before (row_at t.before (length rows)) (confirms_of a t (length rows))) r some
-        (ap (λ o. option_map (λ (x : Row). confirmed_so_far t (rows ++ x ∷ [])) o) changed))
+      (ap (λ o. option_map (λ (x : Row). confirmed_so_far t (rows ++ x ∷ [])) o) changed))
 
   module _ (n : Number) (k : ℕ) where
     -- the last put of a row's data

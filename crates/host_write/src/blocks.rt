@@ -76,7 +76,13 @@ fn data_put(
         bytes: block_at(job, blocks, part, unit),
         lost: 0,
     };
-    errands::put(job.id, part.row, number, cell, bay_of(job.n, part.row, unit))
+    errands::put(
+        job.id,
+        part.row,
+        number,
+        cell,
+        bay_of(job.n, part.row, unit),
+    )
 }
 
 /// The puts of the wanted units of a row that are there.

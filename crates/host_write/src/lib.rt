@@ -1,8 +1,8 @@
 //! The attempt to write the units of some rows.
 #![tactic(auto)]
 
-pub mod blocks;
 pub mod answered;
+pub mod blocks;
 pub mod claims;
 pub mod confirms;
 pub mod parity;

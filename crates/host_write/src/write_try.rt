@@ -352,15 +352,27 @@ impl WriteTry {
             if self.queue.len() > 1 {
                 self.queue.advance();
             } else {
-                let Ahead { stage, queue } =
-                    after_data(&self.job, blocks, rows, &mut self.puts, number, row);
+                let Ahead { stage, queue } = after_data(
+                    &self.job,
+                    blocks,
+                    rows,
+                    &mut self.puts,
+                    number,
+                    row,
+                );
                 self.stage = stage;
                 self.queue = queue;
             }
         } else {
             add_trouble(&mut self.puts, part, bay, reply);
-            let Ahead { stage, queue } =
-                next_put(&self.job, blocks, rows, &mut self.puts, number, row + 1);
+            let Ahead { stage, queue } = next_put(
+                &self.job,
+                blocks,
+                rows,
+                &mut self.puts,
+                number,
+                row + 1,
+            );
             self.stage = stage;
             self.queue = queue;
         }
@@ -378,14 +390,26 @@ impl WriteTry {
         let this = &rows[row];
         let part = this.part();
         if parity_answered(&self.job, this, &mut self.puts, reply) {
-            let Ahead { stage, queue } =
-                next_put(&self.job, blocks, rows, &mut self.puts, number, row + 1);
+            let Ahead { stage, queue } = next_put(
+                &self.job,
+                blocks,
+                rows,
+                &mut self.puts,
+                number,
+                row + 1,
+            );
             self.stage = stage;
             self.queue = queue;
         } else {
             add_trouble(&mut self.puts, part, bay, reply);
-            let Ahead { stage, queue } =
-                next_put(&self.job, blocks, rows, &mut self.puts, number, row + 1);
+            let Ahead { stage, queue } = next_put(
+                &self.job,
+                blocks,
+                rows,
+                &mut self.puts,
+                number,
+                row + 1,
+            );
             self.stage = stage;
             self.queue = queue;
         }

@@ -37,9 +37,9 @@ returns-in-Some-clause-told c =
     ap standing (sym c.as_slice-rows.ensures.value)
     ∙ c.settled-stage.ensures.left
     ∙ ap (settled c.args.numbers.now.host c.args.numbers.now.seen)
-      (confirm-left a t rows w.puts w.queue r c.in-Some.row slice (left_of ahead.stage a t slice c.after_confirm-ahead.new.puts ahead.queue) one held
-        (c.as_slice-rows.ensures.value ∙ c.push.ensures.items) c.after_confirm-ahead.ensures.left
-      ∙ ap (λ s. behind (left_of s a t rows w.puts w.queue) r) (sym c.requires.stage))
+    (confirm-left a t rows w.puts w.queue r c.in-Some.row slice (left_of ahead.stage a t slice c.after_confirm-ahead.new.puts ahead.queue) one held
+    (c.as_slice-rows.ensures.value ∙ c.push.ensures.items) c.after_confirm-ahead.ensures.left
+    ∙ ap (λ s. behind (left_of s a t rows w.puts w.queue) r) (sym c.requires.stage))
 
 pub returns-in-None-clause-told : goal.returns-in-None-clause-told
 returns-in-None-clause-told c =

@@ -37,7 +37,7 @@ returns-else-len-gt1-clause-left c =
     ∙ c.after_data-stage.ensures.left t
     ∙ ap (λ xs. data_done a n (row_at xs k) (puts_of a n xs k) (Through puts)) c.as_slice-rows.ensures.value
     ∙ data-last a t rows w.puts q r n k puts (omega (arith, some))
-      (data-some a c.index-rows-row.result (row_at rows k) w.puts puts c.unit_on-unit.result (first_errand q) (put_end r) c.data_answered.result this at (c.data_answered.ensures.value c.args.blocks.now) c.if-data_answered.true)
+    (data-some a c.index-rows-row.result (row_at rows k) w.puts puts c.unit_on-unit.result (first_errand q) (put_end r) c.data_answered.result this at (c.data_answered.ensures.value c.args.blocks.now) c.if-data_answered.true)
     ∙ ap (λ s. behind (left_of s a t rows w.puts q) r) (sym c.requires.stage)
 
 pub returns-else-data_answered-clause-left : goal.returns-else-data_answered-clause-left
@@ -70,5 +70,5 @@ returns-else-data_answered-clause-left c =
     ∙ ap (λ xs. puts_of a n xs k c.add_trouble.new.puts) c.as_slice-rows.ensures.value
     ∙ ap (puts_of a n rows k) troubled
     ∙ data-stop a t rows w.puts q r n k some
-      (data-none a c.index-rows-row.result (row_at rows k) w.puts c.data_answered.new.puts c.unit_on-unit.result (first_errand q) (put_end r) c.data_answered.result this at (c.data_answered.ensures.value c.args.blocks.now) c.if-data_answered.false)
+    (data-none a c.index-rows-row.result (row_at rows k) w.puts c.data_answered.new.puts c.unit_on-unit.result (first_errand q) (put_end r) c.data_answered.result this at (c.data_answered.ensures.value c.args.blocks.now) c.if-data_answered.false)
     ∙ ap (λ s. behind (left_of s a t rows w.puts q) r) (sym c.requires.stage)

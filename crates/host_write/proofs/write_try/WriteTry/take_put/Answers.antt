@@ -35,7 +35,7 @@ returns-then-parity_answered-clause-left c =
     ∙ c.next_put-stage.ensures.left t
     ∙ ap (λ xs. puts_of a n xs k puts) c.as_slice-rows.ensures.value
     ∙ parity-last a t rows w.puts q r n k puts one
-      (parity-some a c.index-rows-row.result (row_at rows k) w.puts puts (put_end r) c.parity_answered.result this (c.parity_answered.ensures.value c.args.blocks.now) c.if-parity_answered.true)
+    (parity-some a c.index-rows-row.result (row_at rows k) w.puts puts (put_end r) c.parity_answered.result this (c.parity_answered.ensures.value c.args.blocks.now) c.if-parity_answered.true)
     ∙ ap (λ s. behind (left_of s a t rows w.puts q) r) (sym c.requires.stage)
 
 pub returns-else-parity_answered-clause-left : goal.returns-else-parity_answered-clause-left
@@ -66,5 +66,5 @@ returns-else-parity_answered-clause-left c =
     ∙ ap (λ xs. puts_of a n xs k c.add_trouble.new.puts) c.as_slice-rows.ensures.value
     ∙ ap (puts_of a n rows k) troubled
     ∙ parity-stop a t rows w.puts q r n k (omega (arith, one))
-      (parity-none a c.index-rows-row.result (row_at rows k) w.puts c.parity_answered.new.puts (put_end r) c.parity_answered.result this (c.parity_answered.ensures.value c.args.blocks.now) c.if-parity_answered.false)
+    (parity-none a c.index-rows-row.result (row_at rows k) w.puts c.parity_answered.new.puts (put_end r) c.parity_answered.result this (c.parity_answered.ensures.value c.args.blocks.now) c.if-parity_answered.false)
     ∙ ap (λ s. behind (left_of s a t rows w.puts q) r) (sym c.requires.stage)
