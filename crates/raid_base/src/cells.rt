@@ -12,11 +12,26 @@ pub struct Cell {
     pub lost: u16,
 }
 
+impl Default for Cell {
+    fn default() -> Self {
+        Cell {
+            bytes: [0; 64],
+            lost: 0,
+        }
+    }
+}
+
 /// The content of a block.
 #[derive(Clone, Copy, Debug, PartialEq, Eq)]
 pub enum Content {
     Bytes([u8; 64]),
     Lost,
+}
+
+impl Default for Content {
+    fn default() -> Self {
+        Content::Lost
+    }
 }
 
 /// What a report shows of a block: its content, or nothing where it is missing and can't be told.

@@ -35,5 +35,32 @@ pub fn blocks_add_up()
     ensures inverse { IsSelfInverse }
     ensures blocks { MakesBlocks }
     ensures sums { SumsAdd }
-{
+{}
+
+#[cfg(test)]
+mod tests {
+    use super::*;
+
+    #[test]
+    fn adds_blocks(rt: HostRuntime) {
+        let mut sum = [0b1100; 64];
+        let mut other = [0b1010; 64];
+        other[63] = 0xff;
+        xor_into(&mut sum, &other);
+        assert_eq!(rt; sum[0], 0b0110);
+        assert_eq!(rt; sum[62], 0b0110);
+        assert_eq!(rt; sum[63], 0xf3);
+        blocks_add_up();
+    }
+
+    #[test]
+    fn sums_cells(rt: HostRuntime) {
+        let cells = [1, 2, 4].map(|byte| Cell {
+            bytes: [byte; 64],
+            lost: 0,
+        });
+        for (count, sum) in [(0usize, 0u8), (1, 1), (2, 3), (3, 7)] {
+            assert_eq!(rt; sum_of(&cells[..count]), [sum; 64], "of {count} cells");
+        }
+    }
 }

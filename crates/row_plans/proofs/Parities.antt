@@ -1,5 +1,5 @@
 -- How parities add up, and which plan reads the fewest cells.
-use Rattle.std.proofs.Common.{◌≡◌, ◌∙◌, ℕ, ◌+◌, ◌-◌, ◌<◌, ◌≤◌, ◌==◌, nat_le, Bool, true, false, not, List, [], ◌∷◌, ◌++◌, map, filter, length, fold, bit_or, max, cond, refl, ap, sym, arith}
+use Rattle.std.proofs.Common.{◌≡◌, ◌∙◌, ℕ, ◌+◌, ◌-◌, ◌<◌, ◌≤◌, ◌==◌, nat_le, Bool, true, false, not, List, [], ◌∷◌, ◌++◌, map, filter, fold, bit_or, max, cond, refl, ap, sym, arith}
 use Rattle.std.specs.Int.{bit_at}
 use Rattle.std.specs.Int.Bits.{or_zero_r, or_zero_l}
 use Rattle.std.proofs.lemmas.Nat.Bits.{bit_at_or, same_from_bits}
@@ -8,10 +8,10 @@ use Rattle.std.proofs.lemmas.Bool.Decides.{nat_tests}
 use Rattle.raid_base.specs.declared.cells.Cell.{Cell}
 use Rattle.raid_base.specs.declared.jobs.Plan.{Plan}
 use Rattle.raid_base.specs.declared.jobs.Plan.TheVariants.{Full, Small, Reconstruct}
-use Rattle.raid_base.specs.Cells.{zeros, zero_cell}
+use Rattle.raid_base.specs.Cells.{zero_cell}
 use Rattle.raid_xor.specs.Sums.{xor_of, sum_of}
 use Rattle.raid_xor.specs.Laws.{AreBlocks}
-use Rattle.raid_xor.proofs.XorLemmas.{added, swap, length-xor_of, length-sum_of, sum_of-cons, sum_of-append, AreBlocks-append}
+use Rattle.raid_xor.proofs.XorLemmas.{added, swap, sum_of-cons, sum_of-append, AreBlocks-append}
 use Rattle.row_plans.specs.Plans.{choose, fold_whole, parity_of}
 use Rattle.row_plans.specs.Laws.{reads, Serves}
 
@@ -105,17 +105,17 @@ AreBlocks-filter cell chosen (u ∷ us) bs =
 abbrev pub split : (ℕ → Cell) → (ℕ → Bool) → List ℕ → List Cell
 split cell chosen units = map cell (filter chosen units) ++ map cell (filter (λ unit. not (chosen unit)) units)
 
-AreBlocks-split : (cell : ℕ → Cell) (chosen : ℕ → Bool) (units : List ℕ) → AreBlocks (map cell units) → AreBlocks (split cell chosen units)
+pub AreBlocks-split : (cell : ℕ → Cell) (chosen : ℕ → Bool) (units : List ℕ) → AreBlocks (map cell units) → AreBlocks (split cell chosen units)
 AreBlocks-split cell chosen units bs =
     AreBlocks-append (map cell (filter chosen units)) (map cell (filter (λ unit. not (chosen unit)) units))
-        (AreBlocks-filter cell chosen units bs) (AreBlocks-filter cell (λ unit. not (chosen unit)) units bs)
+    (AreBlocks-filter cell chosen units bs) (AreBlocks-filter cell (λ unit. not (chosen unit)) units bs)
 
 split_step : (cell : ℕ → Cell) (chosen : ℕ → Bool) (u : ℕ) (us : List ℕ) (b : Bool) → chosen u ≡ b → AreBlocks (map cell (u ∷ us)) → parity_of (split cell chosen (u ∷ us)) ≡ fold_whole (cell u) (parity_of (split cell chosen us))
 split_step cell chosen u us true e bs = rw e (parity_of-cons (cell u) (split cell chosen us) (bs.0, AreBlocks-split cell chosen us bs.1))
 split_step cell chosen u us false e bs =
     rw e (parity_of-first (map cell (filter chosen us)) (cell u) (map cell (filter (λ unit. not (chosen unit)) us))
-            (AreBlocks-filter cell chosen us bs.1) (bs.0, AreBlocks-filter cell (λ unit. not (chosen unit)) us bs.1)
-        ∙ parity_of-cons (cell u) (split cell chosen us) (bs.0, AreBlocks-split cell chosen us bs.1))
+    (AreBlocks-filter cell chosen us bs.1) (bs.0, AreBlocks-filter cell (λ unit. not (chosen unit)) us bs.1)
+    ∙ parity_of-cons (cell u) (split cell chosen us) (bs.0, AreBlocks-split cell chosen us bs.1))
 
 pub order_free : (cell : ℕ → Cell) (chosen : ℕ → Bool) (units : List ℕ) → AreBlocks (map cell units) → parity_of (split cell chosen units) ≡ parity_of (map cell units)
 order_free cell chosen [] bs = refl

@@ -1,1 +1,4 @@
 pub mod Objects
+pub mod Table
+pub mod Marks
+pub mod RowParts

@@ -1,0 +1,14 @@
+-- What an answer says, once there is one.
+use Rattle.std.specs.Prelude.{[], List, Option, Some, None}
+use Rattle.raid_base.specs.declared.cells.Content.{Content}
+use Rattle.raid_base.specs.declared.jobs.Ended.{Ended}
+use Rattle.attempts.specs.Taking.{Finish}
+
+abbrev pub ended_in : Option Finish → Option Ended
+ended_in None = None
+ended_in (Some f) = Some f.ended
+
+-- no contents before
+abbrev pub contents_in : Option Finish → List Content
+contents_in None = []
+contents_in (Some f) = f.contents

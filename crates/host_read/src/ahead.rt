@@ -1,0 +1,202 @@
+//! What a read does next, once a phase of it has ended.
+ghost use Rattle.std.specs.Prelude.{◌≡◌, ℕ, true, false, [], ◌∷◌, ◌++◌, ◌+◌, ◌*◌, ◌<◌, ◌≤◌, IsTrue, length, drop};
+ghost use Rattle.arrayvec.specs.ArrayVec.{array_vec_len};
+ghost use Rattle.stripe_layout.specs.Placement.{bays_of, units_in, units_out};
+ghost use Rattle.raid_base.specs.declared.jobs.RowPart.{RowPart};
+ghost use Rattle.attempts.specs.Accesses.{access_of};
+ghost use Rattle.attempts.specs.Taking.{Taken as TakenView, row_ended, shares};
+ghost use Rattle.attempts.specs.Releases.{read_releases, refused_steps};
+ghost use Rattle.attempts.specs.Reading.{contents_of, read_numbered, read_drawn, wanted_shared, parity_shared};
+ghost use Rattle.raid_base.specs.Steps.{Through, draws, settled};
+ghost use Rattle.host_read.specs.Stages.{is_kept, is_settled};
+ghost use Rattle.host_read.specs.Left.{left_of, rest_of};
+
+use attempts::assignment::Assignment;
+use attempts::contents::{Contents, push_row_contents};
+use attempts::errands::{share, shares};
+use attempts::holds::{bays_of, numbered_releases, push_read_row, read_releases};
+use attempts::queue::Queue;
+use attempts::rows::{Taken, lacks};
+use attempts::units::{units_in, units_out};
+use place_numbers::Numbers;
+use raid_base::{Cause, Mode, Number, RowPart, Spent};
+use crate::stages::{Ahead, ReadStage};
+use stripe_layout::parity_bay;
+
+/// The shares of a part's units.
+pub fn wanted_shares(job: &Assignment, part: RowPart) -> Queue
+    ensures value { result ≡ shares job.now.id part.row (bays_of job.now.n part.row (units_in job.now.n part.mask)) }
+    ensures len { length result ≡ length (units_in job.now.n part.mask) }
+    ensures few { length result ≤ 15 }
+{
+    let units = units_in(job.n, part.mask);
+    let bays = bays_of(job.n, part.row, units.as_slice());
+    shares(job.id, part.row, bays.as_slice())
+}
+
+/// The shares of the other units of its row.
+fn other_shares(job: &Assignment, part: RowPart) -> Queue
+    ensures value { result ≡ shares job.now.id part.row (bays_of job.now.n part.row (units_out job.now.n part.mask)) }
+    ensures few { length result ≤ 15 }
+{
+    let units = units_out(job.n, part.mask);
+    let bays = bays_of(job.n, part.row, units.as_slice());
+    shares(job.id, part.row, bays.as_slice())
+}
+
+/// The end of the shares: under stamps the read ends here, and under locks it draws.
+fn numbered(job: &Assignment) -> Ahead
+    ensures left { (taken : TakenView) → left_of result.stage (access_of job.now []) taken result.queue ≡ read_numbered job.now.mode (access_of job.now []) taken.before }
+    ensures kept { (parts : ℕ) → (taken : TakenView) → length taken.before ≤ parts → is_kept result.stage parts (length result.queue) taken ≡ true }
+{
+    match job.mode {
+        Mode::Order => Ahead {
+            stage: ReadStage::Freeing {
+                number: job.id,
+                gone: None,
+            },
+            queue: Queue::empty(),
+        },
+        Mode::Lock => Ahead {
+            stage: ReadStage::Drawing,
+            queue: Queue::empty(),
+        },
+    }
+}
+
+/// Ends the row in hand, and takes the next in hand where there is one.
+pub fn end_row(job: &Assignment, taken: &mut Taken, contents: &mut Contents) -> Ahead
+    requires row { length taken.old.before < array_vec_len job.now.parts }
+    requires wanted { length taken.old.row.wanted ≤ 16 }
+    requires others { length taken.old.row.others ≤ 16 }
+    requires shown { contents.old.items ≡ contents_of job.now.n taken.old.before }
+    requires room { array_vec_len contents.old ≤ 15 * length taken.old.before }
+    ensures left { left_of result.stage (access_of job.now []) taken.new result.queue ≡ rest_of (access_of job.now []) taken.old (row_ended taken.old) }
+    ensures kept { is_kept result.stage (array_vec_len job.now.parts) (length result.queue) taken.new ≡ true }
+    ensures row { length taken.new.before ≤ array_vec_len job.now.parts }
+    ensures shown { contents.new.items ≡ contents_of job.now.n taken.new.before }
+    ensures room { array_vec_len contents.new ≤ 15 * length taken.new.before }
+{
+    push_row_contents(contents, job.n, taken.row());
+    let at = taken.before().len() + 1;
+    if at < job.parts.len() {
+        let part = job.parts[at];
+        taken.next_row(part);
+        Ahead {
+            stage: ReadStage::Wanted,
+            queue: wanted_shares(job, part),
+        }
+    } else {
+        taken.next_row(RowPart::default());
+        numbered(job)
+    }
+}
+
+/// What follows the shares of the wanted units.
+pub fn after_wanted(job: &Assignment, taken: &mut Taken, contents: &mut Contents) -> Ahead
+    requires row { length taken.old.before < array_vec_len job.now.parts }
+    requires wanted { length taken.old.row.wanted ≤ 16 }
+    requires others { length taken.old.row.others ≡ 0 }
+    requires shown { contents.old.items ≡ contents_of job.now.n taken.old.before }
+    requires room { array_vec_len contents.old ≤ 15 * length taken.old.before }
+    ensures left { left_of result.stage (access_of job.now []) taken.new result.queue ≡ wanted_shared (access_of job.now []) (rest_of (access_of job.now []) taken.old) (Through taken.old) }
+    ensures kept { is_kept result.stage (array_vec_len job.now.parts) (length result.queue) taken.new ≡ true }
+    ensures row { length taken.new.before ≤ array_vec_len job.now.parts }
+    ensures shown { contents.new.items ≡ contents_of job.now.n taken.new.before }
+    ensures room { array_vec_len contents.new ≤ 15 * length taken.new.before }
+{
+    if lacks(taken.row().wanted()) {
+        let row = taken.row().part().row;
+        Ahead {
+            stage: ReadStage::Parity,
+            queue: Queue::one(share(job.id, row, parity_bay(job.n, row))),
+        }
+    } else {
+        end_row(job, taken, contents)
+    }
+}
+
+/// What follows the share of the parity.
+pub fn after_parity(job: &Assignment, taken: &mut Taken, contents: &mut Contents) -> Ahead
+    requires row { length taken.old.before < array_vec_len job.now.parts }
+    requires wanted { length taken.old.row.wanted ≤ 16 }
+    requires others { length taken.old.row.others ≡ 0 }
+    requires shown { contents.old.items ≡ contents_of job.now.n taken.old.before }
+    requires room { array_vec_len contents.old ≤ 15 * length taken.old.before }
+    ensures left { left_of result.stage (access_of job.now []) taken.new result.queue ≡ parity_shared (access_of job.now []) (rest_of (access_of job.now []) taken.old) (Through taken.old) }
+    ensures kept { is_kept result.stage (array_vec_len job.now.parts) (length result.queue) taken.new ≡ true }
+    ensures row { length taken.new.before ≤ array_vec_len job.now.parts }
+    ensures shown { contents.new.items ≡ contents_of job.now.n taken.new.before }
+    ensures room { array_vec_len contents.new ≤ 15 * length taken.new.before }
+{
+    let queue = other_shares(job, taken.row().part());
+    if queue.len() > 0 {
+        Ahead {
+            stage: ReadStage::Others,
+            queue,
+        }
+    } else {
+        end_row(job, taken, contents)
+    }
+}
+
+/// What is given back of all that is held, where the read is refused.
+pub fn refused(job: &Assignment, taken: &Taken, cause: Cause) -> Ahead
+    requires { length taken.now.before < 8 }
+    ensures left { left_of result.stage (access_of job.now []) taken.now result.queue ≡ refused_steps (read_releases (access_of job.now []) (taken.now.before ++ taken.now.row ∷ [])) cause }
+    ensures kept { is_kept result.stage (array_vec_len job.now.parts) (length result.queue) taken.now ≡ true }
+    ensures awake { is_settled result.stage ≡ true }
+{
+    let mut errands = read_releases(job.mode, job.n, job.id, taken.before());
+    push_read_row(&mut errands, job.mode, job.n, job.id, taken.row());
+    Ahead {
+        stage: ReadStage::Releasing { cause },
+        queue: Queue::new(errands),
+    }
+}
+
+/// What follows the draw of the number.
+#[tactic(auto, using(crate::proofs::ReadLemmas::draws_nothing))]
+pub fn drawn(job: &Assignment, taken: &Taken, number: Result<Number, Spent>) -> Ahead
+    requires { length taken.now.before ≤ array_vec_len job.now.parts }
+    ensures left { left_of result.stage (access_of job.now []) taken.now result.queue ≡ read_drawn (access_of job.now []) taken.now.before number }
+    ensures kept { is_kept result.stage (array_vec_len job.now.parts) (length result.queue) taken.now ≡ true }
+    ensures awake { is_settled result.stage ≡ true }
+    ensures settled { draws (left_of result.stage (access_of job.now []) taken.now result.queue) ≡ false }
+{
+    match number {
+        Ok(number) => Ahead {
+            stage: ReadStage::Freeing { number, gone: None },
+            queue: Queue::new(numbered_releases(job.n, job.id, number, taken.before())),
+        },
+        Err(spent) => Ahead {
+            stage: ReadStage::Releasing {
+                cause: Cause::Spent { seen: spent.seen },
+            },
+            queue: Queue::new(read_releases(job.mode, job.n, job.id, taken.before())),
+        },
+    }
+}
+
+/// Draws the number where it is time to.
+#[tactic(auto, using(crate::proofs::ReadLemmas::settles))]
+pub fn settled(job: &Assignment, taken: &Taken, ahead: Ahead, numbers: &mut Numbers) -> Ahead
+    requires row { length taken.now.before ≤ array_vec_len job.now.parts }
+    requires kept { is_kept ahead.stage (array_vec_len job.now.parts) (length ahead.queue) taken.now ≡ true }
+    ensures left { record { seen = numbers.new.seen; steps = left_of result.stage (access_of job.now []) taken.now result.queue } ≡ settled numbers.old.host numbers.old.seen (left_of ahead.stage (access_of job.now []) taken.now ahead.queue) }
+    ensures host { numbers.new.host ≡ numbers.old.host }
+    ensures kept { is_kept result.stage (array_vec_len job.now.parts) (length result.queue) taken.now ≡ true }
+    ensures awake { is_settled result.stage ≡ true }
+{
+    match ahead.stage {
+        ReadStage::Drawing => {
+            let number = numbers.draw();
+            drawn(job, taken, number)
+        }
+        ReadStage::Wanted => ahead,
+        ReadStage::Parity => ahead,
+        ReadStage::Others => ahead,
+        ReadStage::Freeing { .. } => ahead,
+        ReadStage::Releasing { .. } => ahead,
+    }
+}

@@ -1,0 +1,254 @@
+//! A read as a machine of requests.
+ghost use Rattle.std.specs.Prelude.{◌≡◌, ◌+◌, ◌*◌, ◌^◌, ◌<◌, ◌≤◌, [], ◌↔◌, Some, None, true, if◌then◌else◌, length, IsTrue, IsSome, IsNone, option_map};
+ghost use Rattle.arrayvec.specs.ArrayVec.{array_vec_len};
+ghost use Rattle.attempts.specs.Parts.{are_parts};
+ghost use Rattle.attempts.specs.Reading.{contents_of, first_row};
+ghost use Rattle.raid_base.specs.Replies.{is_done};
+ghost use Rattle.host_read.specs.Stages.{is_kept, is_settled};
+ghost use Rattle.raid_base.specs.Steps.{next_errand, behind, stopped, answer, settled, told};
+ghost use Rattle.raid_base.specs.declared.messages.Errand.{Errand as ErrandView};
+
+use crate::ahead::{after_parity, after_wanted, end_row, refused, settled, wanted_shares};
+use crate::stages::{Ahead, ReadStage};
+use arrayvec::ArrayVec;
+use attempts::assignment::{Assignment, RowParts};
+use attempts::contents::Contents;
+use attempts::queue::Queue;
+use attempts::replies::{behind_from, refusal};
+use attempts::rows::Taken;
+use place_numbers::Numbers;
+use raid_base::{BayNo, Cause, Content, Ended, Mode, Number, Reply, Request, RowNo};
+
+/// An attempt to read the units of some rows.
+#[derive(Debug, Drop)]
+pub struct ReadTry {
+    job: Assignment,
+    stage: ReadStage,
+    taken: Taken,
+    contents: Contents,
+    queue: Queue,
+    ghost kept: { is_kept stage (array_vec_len job.parts) (length queue) taken ≡ true },
+    ghost awake: { is_settled stage ≡ true },
+    ghost shown: { contents.items ≡ contents_of job.n taken.before },
+    ghost room: { array_vec_len contents ≤ 15 * length taken.before },
+}
+
+impl ReadTry {
+    ghost use Rattle.attempts.specs.Reading.{read_steps};
+    ghost use Rattle.host_read.specs.Answers.{ended_in, contents_in};
+    ghost use Rattle.host_read.specs.Tries.{left};
+    ghost use Rattle.host_read.specs.declared.stages.ReadStage.TheVariants.{Wanted, Parity, Others, Freeing};
+
+    /// Begins a read of these parts of a job, on n devices.
+    pub fn begin(mode: Mode, n: u8, id: Number, parts: RowParts) -> ReadTry
+        requires bays { (3 ≤ n) × (n ≤ 16) }
+        requires id { (1 ≤ id.0) × (id.0 < 2 ^ 62) }
+        requires parts { IsTrue (are_parts n parts.items) }
+        ensures { left result ≡ read_steps (record { mode = mode; n = n; id = id; parts = parts.items; blocks = [] }) }
+    {
+        let part = parts[0];
+        let job = Assignment { mode, n, id, parts };
+        let queue = wanted_shares(&job, part);
+        ReadTry {
+            job,
+            stage: ReadStage::Wanted,
+            taken: Taken::begin(part),
+            contents: ArrayVec::new(),
+            queue,
+        }
+    }
+
+    /// The next request, and the bay that it goes to. None exactly where the read has ended.
+    pub fn next(&self, _blocks: &[[u8; 64]]) -> Option<(BayNo, Request)>
+        ensures value { result ≡ option_map (λ (e : ErrandView). (e.bay, e.request)) (next_errand (left self.now)) }
+        ensures ended { IsSome result ↔ (answer (left self.now) ≡ None) }
+    {
+        match self.queue.first() {
+            Some(errand) => Some((errand.bay, errand.request)),
+            None => None,
+        }
+    }
+
+    /// How the read ended, once it has.
+    #[tactic(auto, using(crate::proofs::TryLemmas::tries))]
+    pub fn end(&self) -> Option<Ended>
+        ensures { result ≡ ended_in (answer (left self.now)) }
+    {
+        if self.queue.len() > 0 {
+            return None;
+        }
+        match self.stage {
+            ReadStage::Wanted => None,
+            ReadStage::Parity => None,
+            ReadStage::Others => None,
+            ReadStage::Drawing => None,
+            ReadStage::Freeing { number, gone } => match gone {
+                Some(row) => Some(Ended::Refused(Cause::Released { row })),
+                None => Some(Ended::Read { number }),
+            },
+            ReadStage::Releasing { cause } => Some(Ended::Refused(cause)),
+        }
+    }
+
+    /// How the read ends where the host stops now.
+    pub fn quit(&self) -> Ended
+        requires { answer (left self.now) ≡ None }
+        ensures { Some result ≡ stopped (left self.now) }
+    {
+        Ended::Refused(Cause::Quit)
+    }
+
+    /// The contents of the blocks in order, once it has ended as Read. Before, and where it was refused, none.
+    #[tactic(auto, using(crate::proofs::TryLemmas::tries))]
+    pub fn contents(&self) -> &[Content]
+        ensures { result.now ≡ contents_in (answer (left self.now)) }
+    {
+        let none = &self.contents.as_slice()[..0];
+        if self.queue.len() > 0 {
+            return none;
+        }
+        match self.stage {
+            ReadStage::Wanted => none,
+            ReadStage::Parity => none,
+            ReadStage::Others => none,
+            ReadStage::Drawing => none,
+            ReadStage::Freeing { gone, .. } => match gone {
+                Some(_) => none,
+                None => self.contents.as_slice(),
+            },
+            ReadStage::Releasing { .. } => none,
+        }
+    }
+
+    /// Takes the reply to the next request, and draws the number where it is time to.
+    pub fn take(&mut self, _blocks: &[[u8; 64]], reply: &Reply, numbers: &mut Numbers)
+        requires { answer (left self.old) ≡ None }
+        ensures told { record { seen = numbers.new.seen; steps = left self.new } ≡ told numbers.old.host (record { seen = numbers.old.seen; steps = left self.old }) reply.now }
+        ensures host { numbers.new.host ≡ numbers.old.host }
+    {
+        numbers.hear(reply);
+        match self.stage {
+            ReadStage::Wanted => self.take_wanted(reply, numbers),
+            ReadStage::Parity => self.take_parity(reply, numbers),
+            ReadStage::Others => self.take_other(reply, numbers),
+            ReadStage::Drawing => unreachable!(),
+            ReadStage::Freeing { number, gone } => self.take_freed(number, gone, reply),
+            ReadStage::Releasing { .. } => self.queue.advance(),
+        }
+    }
+
+    /// Takes the reply to the share of a wanted unit.
+    fn take_wanted(&mut self, reply: &Reply, numbers: &mut Numbers)
+        requires { self.old.stage ≡ Wanted }
+        ensures told { record { seen = numbers.new.seen; steps = left self.new } ≡ settled numbers.old.host numbers.old.seen (behind (left self.old) reply.now) }
+        ensures host { numbers.new.host ≡ numbers.old.host }
+    {
+        let bay = self.queue.head().bay;
+        let least = behind_from(self.job.mode, self.job.id);
+        match refusal(least, self.taken.missing(), bay, reply) {
+            Some(cause) => {
+                let Ahead { stage, queue } = refused(&self.job, &self.taken, cause);
+                self.stage = stage;
+                self.queue = queue;
+            }
+            None => {
+                self.taken.keep_wanted(bay, reply.grant());
+                if self.queue.len() > 1 {
+                    self.queue.advance();
+                } else {
+                    let ahead = after_wanted(&self.job, &mut self.taken, &mut self.contents);
+                    let Ahead { stage, queue } = settled(&self.job, &self.taken, ahead, numbers);
+                    self.stage = stage;
+                    self.queue = queue;
+                }
+            }
+        }
+    }
+
+    /// Takes the reply to the share of the parity.
+    fn take_parity(&mut self, reply: &Reply, numbers: &mut Numbers)
+        requires { self.old.stage ≡ Parity }
+        ensures told { record { seen = numbers.new.seen; steps = left self.new } ≡ settled numbers.old.host numbers.old.seen (behind (left self.old) reply.now) }
+        ensures host { numbers.new.host ≡ numbers.old.host }
+    {
+        let bay = self.queue.head().bay;
+        let least = behind_from(self.job.mode, self.job.id);
+        match refusal(least, self.taken.missing(), bay, reply) {
+            Some(cause) => {
+                let Ahead { stage, queue } = refused(&self.job, &self.taken, cause);
+                self.stage = stage;
+                self.queue = queue;
+            }
+            None => {
+                self.taken.keep_parity(bay, reply.grant());
+                let ahead = after_parity(&self.job, &mut self.taken, &mut self.contents);
+                let Ahead { stage, queue } = settled(&self.job, &self.taken, ahead, numbers);
+                self.stage = stage;
+                self.queue = queue;
+            }
+        }
+    }
+
+    /// Takes the reply to the share of another unit.
+    fn take_other(&mut self, reply: &Reply, numbers: &mut Numbers)
+        requires { self.old.stage ≡ Others }
+        ensures told { record { seen = numbers.new.seen; steps = left self.new } ≡ settled numbers.old.host numbers.old.seen (behind (left self.old) reply.now) }
+        ensures host { numbers.new.host ≡ numbers.old.host }
+    {
+        let bay = self.queue.head().bay;
+        let least = behind_from(self.job.mode, self.job.id);
+        match refusal(least, self.taken.missing(), bay, reply) {
+            Some(cause) => {
+                let Ahead { stage, queue } = refused(&self.job, &self.taken, cause);
+                self.stage = stage;
+                self.queue = queue;
+            }
+            None => {
+                self.taken.keep_other(bay, reply.grant());
+                if self.queue.len() > 1 {
+                    self.queue.advance();
+                } else {
+                    let ahead = end_row(&self.job, &mut self.taken, &mut self.contents);
+                    let Ahead { stage, queue } = settled(&self.job, &self.taken, ahead, numbers);
+                    self.stage = stage;
+                    self.queue = queue;
+                }
+            }
+        }
+    }
+
+    /// Takes the reply to the release of a reader.
+    fn take_freed(&mut self, number: Number, gone: Option<RowNo>, reply: &Reply)
+        requires stage { self.old.stage ≡ Freeing number gone }
+        requires some { 0 < length self.old.queue }
+        ensures { left self.new ≡ behind (left self.old) reply.now }
+    {
+        let errand = self.queue.head();
+        self.stage = ReadStage::Freeing {
+            number,
+            gone: gone_row(gone, &errand.request, reply),
+        };
+        self.queue.advance();
+    }
+}
+
+/// The first row of which a reader was gone, after the reply to one more release.
+fn gone_row(gone: Option<RowNo>, request: &Request, reply: &Reply) -> Option<RowNo>
+    ensures { result ≡ (if is_done reply.now then gone else first_row gone request.now) }
+{
+    if reply.is_done() {
+        return gone;
+    }
+    match gone {
+        Some(row) => Some(row),
+        None => match *request {
+            Request::Release { row, .. } => Some(row),
+            Request::Share { .. } => None,
+            Request::Claim { .. } => None,
+            Request::Confirm { .. } => None,
+            Request::Put { .. } => None,
+            Request::Lose => None,
+            Request::Fit => None,
+        },
+    }
+}
