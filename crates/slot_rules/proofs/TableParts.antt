@@ -129,6 +129,15 @@ blocks-row (Release r id n) row cell blocks e = sym (set-get_or blocks row.0 [])
 blocks-row Lose row cell blocks e = cc
 blocks-row Fit row cell blocks e = cc
 
+pub applied-reply : (table new : Table) (row : RowNo) (ask : Ask) (cell : Option Cell) (reply : Reply) → row_of ask.what ≡ Some row → ServedRow row ask cell table reply new →
+    (blocks : List (List ℕ)) → cell ≡ served_cell (with_blocks table blocks) ask → reply ≡ (rule (with_blocks table blocks) ask false).reply
+applied-reply table new row ask cell reply is served blocks h =
+    let bay = with_blocks table blocks in
+    let needs : cell ≡ (if is_fault (slot_rule bay (slot_of bay row) ask true ask.what).reply then needed_cell ask.what (slot_of bay row).cell else None) =
+    h ∙ ap (λ (o : Outcome). if is_fault o.reply then needed_cell ask.what (cell_at bay (row_of ask.what)) else None) (rule_of-row bay ask true ask.what row is)
+    ∙ ap (λ r. if is_fault (slot_rule bay (slot_of bay row) ask true ask.what).reply then needed_cell ask.what (cell_at bay r) else None) is in
+    (served blocks needs).0 ∙ ap (λ (o : Outcome). o.reply) (sym (rule_of-row bay ask false ask.what row is))
+
 pub applied-row : (table new : Table) (row : RowNo) (ask : Ask) (cell : Option Cell) (reply : Reply) → row_of ask.what ≡ Some row → ServedRow row ask cell table reply new →
     (blocks : List (List ℕ)) → length table.slots ≤ length blocks → cell ≡ served_cell (with_blocks table blocks) ask →
     with_blocks new (blocks_after ask.what cell blocks) ≡ (rule (with_blocks table blocks) ask false).bay

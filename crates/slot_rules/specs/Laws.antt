@@ -17,7 +17,8 @@ use Rattle.raid_base.specs.declared.messages.Entry.{Entry}
 use Rattle.raid_base.specs.Fits.{fits}
 use Rattle.raid_base.specs.Replies.{is_fault}
 use Rattle.slot_rules.specs.declared.Reader.{Reader}
-use Rattle.slot_rules.specs.Slots.{Slot, Bay, first_bay, slot_of}
+use Rattle.raid_base.specs.Numbers.{number}
+use Rattle.slot_rules.specs.Slots.{Slot, Bay, first_bay, bare_slot, slot_of}
 use Rattle.slot_rules.specs.Replay.{Replays}
 use Rattle.slot_rules.specs.Serving.{row_of}
 use Rattle.slot_rules.specs.Rules.{note_id, is_reader, rule}
@@ -97,13 +98,13 @@ granted_read (Share row id want) mode = order_read mode id
 granted_read _ mode = None
 
 abbrev pub released_read : Request → Option Note → Option Number
-released_read (Release row id n) note = if note_id note id then None else n
-released_read _ note = None
+released_read (Release row id n) open_note = if note_id open_note id then None else n
+released_read _ open_note = None
 
 abbrev pub read_number : Mode → Option Note → Request → Reply → Option Number
-read_number mode note what (Granted cell read_no write_no last life seized) = granted_read what mode
-read_number mode note what Done = released_read what note
-read_number mode note what _ = None
+read_number mode open_note what (Granted cell read_no write_no last life seized) = granted_read what mode
+read_number mode open_note what Done = released_read what open_note
+read_number mode open_note what _ = None
 
 -- the number under which a slot was written
 abbrev pub put_number : Request → Option Number
@@ -256,3 +257,9 @@ ReleasesFindHolders =
     (bay : Bay) (ask : Ask) (fails : Bool) (row : RowNo) (id : Number) (n : Option Number) → row.0 < length bay.slots →
     ask.what ≡ Release row id n → (rule bay ask fails).reply ≡ Done →
     (note_id (slot_of bay row).note id || is_some (find (is_reader id) (slot_of bay row).readers)) ≡ true
+
+-- a bay without a device has only blank slots, and nothing stands on them
+abbrev pub EmptyBaysAreBare : Type 0
+EmptyBaysAreBare =
+    (mode : Mode) (rows patience : ℕ) (entries : List Entry) (bay : Bay) (clock : ℕ) (row : RowNo) → row.0 < rows →
+    Replays (first_bay mode rows patience) 0 entries bay clock → bay.empty ≡ true → slot_of bay row ≡ bare_slot (number 0)

@@ -1,5 +1,5 @@
 -- One slot's part of the rule, and what of it needs the store.
-use Rattle.std.specs.Prelude.{◌≡◌, ℕ, ◌<◌, ◌≤◌, ◌+◌, IfSome, length, map, slice_index_or, Bool, true, false, if◌then◌else◌, ◌&&◌, not, List, [], slice_set, Option, Some, None}
+use Rattle.std.specs.Prelude.{◌≡◌, ℕ, ◌<◌, ◌≤◌, ◌+◌, IfSome, IsSome, length, map, slice_index_or, Bool, true, false, if◌then◌else◌, ◌&&◌, not, List, [], slice_set, Option, Some, None}
 use Rattle.raid_base.specs.declared.cells.Cell.{Cell}
 use Rattle.raid_base.specs.declared.numbers.Number.{Number}
 use Rattle.raid_base.specs.declared.numbers.RowNo.{RowNo}
@@ -12,6 +12,7 @@ use Rattle.raid_base.specs.declared.messages.Reply.TheVariants.{Held, Emptied, F
 use Rattle.raid_base.specs.declared.messages.Request.{Request}
 use Rattle.raid_base.specs.declared.messages.Request.TheVariants.{Share, Claim, Confirm, Put, Release, Lose, Fit}
 use Rattle.raid_base.specs.Numbers.{number}
+use Rattle.raid_base.specs.Fits.{fits}
 use Rattle.raid_base.specs.Replies.{is_fault, is_missing}
 use Rattle.slot_rules.specs.declared.slot.BayState.{BayState}
 use Rattle.slot_rules.specs.declared.slot.SlotState.{SlotState}
@@ -140,6 +141,12 @@ row_of (Put row id n cell) = Some row
 row_of (Release row id n) = Some row
 row_of Lose = None
 row_of Fit = None
+
+-- what a verdict says, whatever the blocks: a reply that fits and is no Fault, a row that is read, or a put
+abbrev pub IsVerdict : Request → Verdict → Type 0
+IsVerdict what (Say reply) = (fits what reply ≡ true) × (is_fault reply ≡ false)
+IsVerdict what NeedRead = (is_put what ≡ false) × IsSome (row_of what)
+IsVerdict what NeedWrite = is_put what ≡ true
 
 -- the cell that a request writes, or else the one that it may show
 abbrev pub needed_cell : Request → Option Cell → Option Cell
