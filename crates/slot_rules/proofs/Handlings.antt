@@ -17,7 +17,8 @@ use Rattle.slot_rules.specs.declared.slot.Verdict.TheVariants.{Say, NeedRead, Ne
 use Rattle.slot_rules.specs.Slots.{Slot, Bay, slot_of, bare_slot}
 use Rattle.slot_rules.specs.Rules.{Outcome, lose_rule, fit_rule, rule_of, rule}
 use Rattle.slot_rules.specs.Tables.{Table, cell_of, with_block, with_blocks, lost_of, first_kept}
-use Rattle.slot_rules.specs.Serving.{IsVerdict, ServedRow, row_of, is_put, need, verdict_of, needed_cell, cell_at, served_cell, blocks_after}
+use Rattle.slot_rules.specs.Serving.{IsVerdict, row_of, is_put, need, verdict_of, needed_cell, cell_at, served_cell, blocks_after}
+use Rattle.slot_rules.specs.Parts.{ServedRow}
 use Rattle.slot_rules.specs.Laws.{uses_store}
 use Rattle.slot_rules.specs.Handling.{Handled}
 use Rattle.slot_rules.proofs.TableLists.{slot-there}

@@ -16,7 +16,8 @@ use Rattle.slot_rules.specs.declared.slot.Verdict.{Verdict}
 use Rattle.slot_rules.specs.Slots.{Slot, Bay, bare_slot, slot_of}
 use Rattle.slot_rules.specs.Rules.{Outcome, raised, note_id, put_rule, share_rule, claim_rule, confirm_rule, release_rule, with_slot, lose_rule, fit_rule, rule_of, rule}
 use Rattle.slot_rules.specs.Tables.{Table, bay_of, with_block, slots_with, with_blocks, bare_kept, lost_of}
-use Rattle.slot_rules.specs.Serving.{row_of, slot_rule, verdict_for, verdict_of, needed_cell, cell_at, served_cell, block_after, blocks_after, ServedSlot, ServedRow, device_after}
+use Rattle.slot_rules.specs.Serving.{row_of, slot_rule, verdict_for, verdict_of, needed_cell, cell_at, served_cell, blocks_after}
+use Rattle.slot_rules.specs.Parts.{block_after, ServedSlot, ServedRow, device_after}
 use Rattle.slot_rules.proofs.TableLists.{slot-there, slots-set, slots-bare}
 
 -- the slot of a row

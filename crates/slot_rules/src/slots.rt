@@ -1,7 +1,8 @@
 //! The slots of one bay.
 ghost use Rattle.std.specs.Prelude.{◌≡◌, map};
 ghost use Rattle.slot_rules.specs.Tables.{bare_kept};
-ghost use Rattle.slot_rules.specs.Serving.{row_of, device_reply};
+ghost use Rattle.slot_rules.specs.Serving.{row_of};
+ghost use Rattle.slot_rules.specs.Parts.{device_reply};
 
 use crate::slot::{BayState, SlotState, Verdict, raised};
 use raid_base::{Ask, Cell, Mode, NoMemory, Note, Number, Reply, Request, RowNo};
@@ -44,7 +45,7 @@ fn strip_all(slots: &mut [SlotState], number: Number)
 }
 
 /// The slots of one bay, all but their blocks.
-#[derive(Drop)]
+#[derive(Debug, Drop)]
 pub struct Slots {
     state: BayState,
     slots: Vec<SlotState>,
@@ -65,7 +66,8 @@ impl Slots {
     ghost use Rattle.slot_rules.specs.Slots.{first_bay, slot_of};
     ghost use Rattle.slot_rules.specs.Rules.{rule};
     ghost use Rattle.slot_rules.specs.Tables.{with_blocks, lost_of};
-    ghost use Rattle.slot_rules.specs.Serving.{IsAskFor, IsVerdict, verdict_of, served_cell, blocks_after, row_of, ServedRow, table_lost, table_fitted, device_reply, device_after};
+    ghost use Rattle.slot_rules.specs.Serving.{IsAskFor, IsVerdict, verdict_of, served_cell, blocks_after, row_of};
+    ghost use Rattle.slot_rules.specs.Parts.{ServedRow, table_lost, table_fitted, device_reply, device_after};
 
     /// The slots at the start, over blocks of zeros: none is blank, and all numbers are 0. All memory is taken here.
     pub fn make(alloc: Global, mode: Mode, rows: u16, patience: u64) -> Result<Slots, NoMemory>
@@ -91,6 +93,13 @@ impl Slots {
         ensures { result ≡ length self.now.slots }
     {
         self.slots.len()
+    }
+
+    /// How requests are ordered.
+    pub fn mode(&self) -> Mode
+        ensures { result ≡ self.now.state.mode }
+    {
+        self.state.mode
     }
 
     /// Whether the device is lost and no other is fitted.
