@@ -3,7 +3,8 @@ ghost use Rattle.std.specs.Prelude.{◌≡◌, ℕ, ◌+◌, ◌-◌, ◌*◌, �
 ghost use Rattle.std.specs.Result.{result_map_both};
 ghost use Rattle.virtual_objects.specs.Objects.{parts, place, part_at, parts_in, parts_from, rows_touched};
 ghost use Rattle.virtual_objects.specs.RowParts.{ArePartsOf};
-ghost use Rattle.virtual_objects.specs.Table.{AreObjects};
+ghost use Rattle.virtual_objects.specs.Places.{ArePlaces};
+ghost use Rattle.virtual_objects.specs.Table.{AreObjects, ObjectTable};
 
 use crate::table::Objects;
 use arrayvec::ArrayVec;
@@ -122,6 +123,11 @@ impl Objects {
         Some((*row, (block % units) as u8))
     }
 }
+
+/// Each data unit of the rows that objects hold is the place of just one block.
+pub fn units_are_placed()
+    ensures { (table : ObjectTable) → AreObjects table → ArePlaces table }
+{}
 
 #[cfg(test)]
 mod tests {
