@@ -1,0 +1,4 @@
+pub mod Marks
+pub mod SoundRows
+pub mod Writes
+pub mod RowUnits

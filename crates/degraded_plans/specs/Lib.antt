@@ -1,3 +1,4 @@
 pub mod Missing
 pub mod Rows
 pub mod Kinds
+pub mod Laws

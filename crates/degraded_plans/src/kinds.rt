@@ -40,3 +40,23 @@ pub fn kind(n: u8, row: RowNo, mask: u16, missing: Option<BayNo>) -> RowKind
         RowKind::NoOther { unit }
     }
 }
+
+#[cfg(test)]
+mod tests {
+    use super::*;
+
+    #[test]
+    fn tells_kinds_of_rows(rt: HostRuntime) {
+        let row = RowNo(1);
+        assert_eq!(rt; kind(5, row, 0b0001, None), RowKind::Whole);
+        assert_eq!(rt; kind(5, row, 0b0001, Some(BayNo(3))), RowKind::NoParity);
+        assert_eq!(rt;
+            kind(5, row, 0b0001, Some(BayNo(4))),
+            RowKind::NoTarget { unit: 0 }
+        );
+        assert_eq!(rt;
+            kind(5, row, 0b0001, Some(BayNo(2))),
+            RowKind::NoOther { unit: 3 }
+        );
+    }
+}

@@ -6,9 +6,11 @@ ghost use Rattle.raid_xor.specs.Sums.{sum_of};
 ghost use Rattle.degraded_plans.specs.Missing.{missing_of};
 
 pub use kinds::{RowKind, kind};
+pub use laws::{cells_are_read_freely, rows_stay_sound};
 pub use raid_base::Cell;
 
 pub mod kinds;
+pub mod laws;
 
 use raid_xor::xor_into;
 use row_plans::has_unit;
@@ -41,5 +43,44 @@ pub fn missing_of(parity: &Cell, others: &[Cell], unit: u8) -> Cell
     Cell {
         bytes: sum_with(parity, others),
         lost: 0,
+    }
+}
+
+#[cfg(test)]
+mod tests {
+    use super::*;
+
+    #[test]
+    fn makes_missing_cells(rt: HostRuntime) {
+        let others = [
+            Cell {
+                bytes: [1; 64],
+                lost: 0,
+            },
+            Cell {
+                bytes: [0; 64],
+                lost: 0b10,
+            },
+        ];
+        let parity = Cell {
+            bytes: [7; 64],
+            lost: 0b10,
+        };
+        assert_eq!(rt;
+            missing_of(&parity, &others, 2),
+            Cell {
+                bytes: [6; 64],
+                lost: 0
+            }
+        );
+        assert_eq!(rt;
+            missing_of(&parity, &others, 1),
+            Cell {
+                bytes: [0; 64],
+                lost: 0b10
+            }
+        );
+        rows_stay_sound();
+        cells_are_read_freely();
     }
 }

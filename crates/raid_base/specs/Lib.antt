@@ -3,6 +3,8 @@ pub mod Numbers
 pub mod Least
 pub mod Cells
 pub mod Replies
+pub mod Counts
+pub mod Streams
 pub mod Fits
 pub mod Steps
 pub mod First

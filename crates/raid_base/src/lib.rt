@@ -8,6 +8,7 @@ pub mod messages;
 pub mod names;
 pub mod numbers;
 pub mod status;
+pub mod streams;
 
 pub use cells::{Cell, Content, Shown, content_of};
 pub use fitting::fits;
@@ -18,3 +19,6 @@ pub use messages::{
 pub use names::Name;
 pub use numbers::{BayNo, HostNo, NUMBERS_END, Number, RowNo, Spent, next_number};
 pub use status::{Failed, Kind, NoMemory, Status};
+pub use streams::memory::{MemorySink, MemorySource};
+pub use streams::standard::{ReaderSource, WriterSink};
+pub use streams::{Sink, Source};

@@ -1,1 +1,1 @@
-pub mod Mixed
+pub mod XorLemmas

@@ -1,2 +1,4 @@
 //! Plays over bays and hosts.
 #![tactic(auto)]
+
+pub mod laws;

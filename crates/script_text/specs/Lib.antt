@@ -1,1 +1,5 @@
 pub mod Script
+pub mod Text
+pub mod Ranges
+pub mod Weights
+pub mod First

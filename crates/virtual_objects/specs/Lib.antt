@@ -1,1 +1,5 @@
 pub mod Objects
+pub mod Table
+pub mod Marks
+pub mod RowParts
+pub mod Places

@@ -1,0 +1,14 @@
+//! Laws of attempts, each the contract of a function without a body.
+ghost use Rattle.attempts.specs.Discipline.{ReadsObey, WritesObey};
+
+/// Every read, whatever the replies and the numbers drawn, asks within the array, in all at most four times as often as
+/// it has rows times bays, gives no more contents than it has units, and does not end as a repair or a recovery does.
+pub fn reads_keep_bounds()
+    ensures { ReadsObey }
+{}
+
+/// Every write, whatever the replies and the numbers drawn, asks within the array, in all at most four times as often as
+/// it has rows times bays, gives no contents, and does not end as a repair or a recovery does.
+pub fn writes_keep_bounds()
+    ensures { WritesObey }
+{}

@@ -1,0 +1,4 @@
+pub mod Appends
+pub mod Report
+pub mod Rows
+pub mod Views

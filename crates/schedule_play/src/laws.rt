@@ -1,0 +1,15 @@
+//! Laws of plays, each the contract of a function without a body.
+ghost use Rattle.schedule_play.specs.FirstForm.{FirstPlaysAreSerial, FirstPlaysKeepParity};
+
+/// One host writes a block of a row of two units under stamps, and then reads it. Each such play in which no store fails
+/// and which comes to its end is serial: its results and contents are those of a serial array, and so is each block that
+/// is seen at the end.
+pub fn first_plays_are_serial()
+    ensures { FirstPlaysAreSerial }
+{}
+
+/// Each such play in which no store fails keeps the parity, at its end and before: after every call a closed row without
+/// a missing slot is sound.
+pub fn first_plays_keep_parity()
+    ensures { FirstPlaysKeepParity }
+{}

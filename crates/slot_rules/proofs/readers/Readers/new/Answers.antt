@@ -1,0 +1,4 @@
+use Rattle.slot_rules.proofs.readers.Readers.new.Goals as goal
+
+pub invariant_of-result : goal.invariant_of-result
+invariant_of-result c = rw c.new.ensures tt

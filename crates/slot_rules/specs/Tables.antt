@@ -1,0 +1,50 @@
+-- What `Slots` keeps of a bay, and the bay that it makes up with the blocks of a store.
+use Rattle.std.specs.Prelude.{ℕ, List, [], ◌∷◌, Option, Some, None}
+use Rattle.raid_base.specs.declared.cells.Cell.{Cell}
+use Rattle.raid_base.specs.declared.numbers.Number.{Number}
+use Rattle.raid_base.specs.Numbers.{number}
+use Rattle.slot_rules.specs.declared.slot.BayState.{BayState}
+use Rattle.slot_rules.specs.declared.slot.SlotState.{SlotState}
+use Rattle.slot_rules.specs.Slots.{Slot, Bay}
+
+-- all of a bay but its blocks
+pub record Table : Type 0 where
+  pub state : BayState
+  pub slots : List SlotState
+
+-- a slot at the start
+abbrev pub first_kept : SlotState
+first_kept = record { mark = Some 0; read_no = number 0; write_no = number 0; last = number 0; note = None; readers = [] }
+
+-- a blank slot, with both numbers this one
+abbrev pub bare_kept : Number → SlotState
+bare_kept n = record { mark = None; read_no = n; write_no = n; last = number 0; note = None; readers = [] }
+
+-- the cell of a slot with this mark and this block: none where the slot is blank
+abbrev pub cell_of : Option ℕ → List ℕ → Option Cell
+cell_of None block = None
+cell_of (Some lost) block = Some (record { bytes = block; lost = lost })
+
+-- the slot with its block
+abbrev pub with_block : SlotState → List ℕ → Slot
+with_block slot block =
+    record { cell = cell_of slot.mark block; read_no = slot.read_no; write_no = slot.write_no; last = slot.last; note = slot.note; readers = slot.readers }
+
+-- each slot with the block of its row
+abbrev pub slots_with : List SlotState → List (List ℕ) → List Slot
+slots_with [] blocks = []
+slots_with (slot ∷ slots) [] = with_block slot [] ∷ slots_with slots []
+slots_with (slot ∷ slots) (block ∷ blocks) = with_block slot block ∷ slots_with slots blocks
+
+-- the bay of this state with these slots
+abbrev pub bay_of : BayState → List Slot → Bay
+bay_of state slots = record { mode = state.mode; patience = state.patience; empty = state.empty; high = state.high; life = state.life; slots = slots }
+
+-- the bay that these make up with the blocks of a store
+abbrev pub with_blocks : Table → List (List ℕ) → Bay
+with_blocks table blocks = bay_of table.state (slots_with table.slots blocks)
+
+-- the lost of a cell, 0 where there is none
+abbrev pub lost_of : Option Cell → ℕ
+lost_of None = 0
+lost_of (Some cell) = cell.lost

@@ -1,0 +1,4 @@
+pub mod NumberLemmas
+pub mod BlockLemmas
+pub mod WordLemmas
+pub mod LineLemmas

@@ -1,0 +1,12 @@
+//! What the texts of scripts and reports are made of: decimal numbers, blocks in hexadecimal digits, and lines of words.
+#![tactic(auto)]
+
+pub mod blocks;
+pub mod numbers;
+#[cfg(test)]
+mod tests;
+pub mod words;
+
+pub use blocks::{block_text, read_block};
+pub use numbers::{number_text, read_number};
+pub use words::{behind_word, behind_words, first_word, is_joined};
