@@ -12,5 +12,4 @@ pub mod stages;
 pub mod troubles;
 pub mod write_try;
 
-pub use attempts::assignment::RowParts;
 pub use write_try::WriteTry;

@@ -95,11 +95,11 @@ pub fn after_data(
     ensures kept { (t : TakenView) → is_kept result.stage job.now.n job.now.parts.items (length result.queue) t rows.now puts.new ≡ true }
     ensures awake { is_settled result.stage ≡ true }
 {
-    let this = &rows[row];
-    match this.parity() {
+    let done = &rows[row];
+    match done.parity() {
         Some(_) => Ahead {
             stage: WriteStage::PutParity { number, row },
-            queue: Queue::one(parity_put(job, blocks, number, this)),
+            queue: Queue::one(parity_put(job, blocks, number, done)),
         },
         None => next_put(job, blocks, rows, puts, number, row + 1),
     }

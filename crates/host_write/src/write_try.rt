@@ -1,7 +1,8 @@
 //! A write as a machine of requests.
 ghost use Rattle.std.specs.Prelude.{◌≡◌, ℕ, List, ◌+◌, ◌*◌, ◌^◌, ◌<◌, ◌≤◌, [], ◌↔◌, Some, None, true, length, IsTrue, IsSome, option_map};
 ghost use Rattle.arrayvec.specs.ArrayVec.{array_vec_len};
-ghost use Rattle.attempts.specs.Parts.{are_parts, blocks_in};
+ghost use Rattle.attempts.specs.Parts.{blocks_in};
+ghost use Rattle.virtual_objects.specs.RowParts.{AreRowParts};
 ghost use Rattle.host_write.specs.Stages.{is_kept, is_settled};
 ghost use Rattle.raid_base.specs.Steps.{next_errand, behind, stopped, answer, settled, told};
 ghost use Rattle.raid_base.specs.declared.messages.Errand.{Errand as ErrandView};
@@ -14,12 +15,13 @@ use crate::puts::Puts;
 use crate::putting::{after_data, next_put, settled};
 use crate::stages::{Ahead, WriteStage};
 use arrayvec::ArrayVec;
-use attempts::assignment::{Assignment, RowParts};
+use attempts::assignment::Assignment;
 use attempts::queue::Queue;
 use attempts::replies::{behind_from, refusal};
 use attempts::rows::{Row, Taken};
 use place_numbers::Numbers;
 use raid_base::{BayNo, Cause, Ended, Mode, Number, Reply, Request};
+use virtual_objects::RowParts;
 
 /// An attempt to write the units of some rows.
 #[derive(Debug, Drop)]
@@ -43,11 +45,11 @@ impl WriteTry {
     ghost use Rattle.host_write.specs.declared.stages.WriteStage.TheVariants.{ClaimParity, ClaimWanted, ClaimSmall, ShareUntil, ShareAfter, Confirm, PutData, PutParity};
 
     /// Begins a write of these parts of a job, on n devices.
-    #[tactic(auto, using(crate::proofs::ClaimLemmas::parts))]
+    #[tactic(auto, using(attempts::proofs::PartLemmas::formed, crate::proofs::ClaimLemmas::parts))]
     pub fn begin(mode: Mode, n: u8, id: Number, parts: RowParts) -> WriteTry
         requires bays { (3 ≤ n) × (n ≤ 16) }
         requires id { (1 ≤ id.0) × (id.0 < 2 ^ 62) }
-        requires parts { IsTrue (are_parts n parts.items) }
+        requires parts { AreRowParts n parts.items }
         ensures count { block_count result ≡ blocks_in parts.items }
         ensures left { (blocks : List (List ℕ)) → left result blocks ≡ write_steps (record { mode = mode; n = n; id = id; parts = parts.items; blocks = blocks }) }
     {
