@@ -1,4 +1,4 @@
-use Rattle.std.proofs.Common.{◌≡◌, ◌++◌, [], ◌∷◌, List, eqb, refl, ap, sym, ◌∙◌, subst, arith}
+use Rattle.std.proofs.Common.{◌++◌, [], ◌∷◌, eqb, refl, ap, sym, ◌∙◌, subst, arith}
 use Rattle.std.specs.List.{IsDistinct}
 use Rattle.std.proofs.lemmas.List.Elements.{All-cons, All-nil}
 use Rattle.raid_base.specs.declared.jobs.RowPart.{RowPart}
@@ -18,6 +18,6 @@ returns c =
       few = omega arith;
       rows_apart = apart;
       each = All-cons (IsPart 3) part [] is (All-nil (IsPart 3));
-      in_turn = (refl, tt)
+      in_turn = (refl, tt);
     } in
     subst (AreRowParts 3) (sym (c.push.ensures.items ∙ ap (λ xs. xs ++ part ∷ []) c.new-parts.ensures)) are
