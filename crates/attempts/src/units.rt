@@ -70,7 +70,7 @@ pub fn granted_of(units: &[u8], grants: &[Option<Grant>]) -> Units
     granted
 }
 
-fn is_among(units: &[u8], unit: u8) -> bool
+pub fn is_among(units: &[u8], unit: u8) -> bool
     ensures { result ≡ is_among units.now unit }
 {
     units.iter().any(|u| *u == unit)

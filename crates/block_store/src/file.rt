@@ -1,5 +1,6 @@
 //! A store over a file: the edge to the outside. What the file holds or gives is not known to any proof.
-ghost use Rattle.std.specs.Prelude.{◌≡◌, ◌+◌, ◌-◌, ◌^◌, ◌≤◌, min};
+ghost use Rattle.std.specs.Prelude.{◌≡◌, ◌≤◌};
+ghost use Rattle.raid_base.specs.Counts.{risen};
 ghost use Rattle.block_store.specs.OnFile.{OnFile};
 
 use crate::store::Store;
@@ -42,7 +43,7 @@ impl FileStore {
 
     fn fail(&mut self) -> Failed
         ensures later { self.old.faults ≤ self.new.faults }
-        ensures counted { self.new ≡ record self.old { faults = min (self.old.faults + 1) (2 ^ 64 - 1) } }
+        ensures counted { self.new ≡ record self.old { faults = risen self.old.faults } }
     {
         self.faults = self.faults.saturating_add(1);
         Failed

@@ -1,7 +1,7 @@
 //! What each store keeps to.
 ghost use Rattle.std.specs.Prelude.{◌≡◌, ℕ, ◌<◌, ◌≤◌, Bool, IsTrue, List, length, slice_index_or, slice_set, is_ok, if◌then◌else◌, IsErr, IfOk};
 ghost use Rattle.raid_base.specs.Cells.{zeros};
-ghost use Rattle.block_store.specs.Faults.{Rises};
+ghost use Rattle.raid_base.specs.Counts.{Rises};
 
 use raid_base::{Failed, RowNo};
 

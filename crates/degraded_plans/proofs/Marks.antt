@@ -1,10 +1,9 @@
 -- The marks of data cells as a number: one bit for each unit.
-use Rattle.std.proofs.Common.{◌≡◌, ◌≢◌, ◌∙◌, ◌⊎◌, inl, inr, ℕ, zero, suc, ◌+◌, ◌-◌, ◌*◌, ◌/◌, ◌%◌, ◌^◌, ◌<◌, ◌≤◌, ◌==◌, Bool, true, false, not, List, [], ◌∷◌, ◌++◌, length, bit_and, bit_or, refl, ap, sym, add-one, arith}
+use Rattle.std.proofs.Common.{◌≡◌, ◌∙◌, ℕ, suc, ◌+◌, ◌*◌, ◌/◌, ◌^◌, ◌<◌, ◌==◌, Bool, true, false, List, [], ◌∷◌, ◌++◌, length, bit_and, refl, ap, sym, add-one, arith}
 use Rattle.std.proofs.lemmas.Nat.{shr_high, and_mask}
 use Rattle.std.proofs.Math.Nat.{two-pow-succ, add_comm, zero-add, mul-one}
-use Rattle.std.proofs.lemmas.Bool.Decides.{nat_tests}
 use Rattle.raid_base.specs.declared.cells.Cell.{Cell}
-use Rattle.raid_base.specs.Cells.{zeros, has_unit, with_unit, without_unit, plain_cell}
+use Rattle.raid_base.specs.Cells.{has_unit, with_unit, without_unit}
 use Rattle.degraded_plans.specs.Rows.{lost_from}
 
 -- 1 for a lost cell

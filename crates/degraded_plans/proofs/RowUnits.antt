@@ -1,18 +1,18 @@
 -- Rows by their units, and the others of a unit in any order.
-use Rattle.std.proofs.Common.{◌≡◌, ◌≢◌, ◌∙◌, inl, ℕ, zero, suc, ◌+◌, ◌<◌, ◌==◌, Bool, true, false, not, cond, List, [], ◌∷◌, ◌++◌, map, filter, length, replicate, take, drop, slice_index_or, slice_set, refl, ap, sym, subst, add-one, zero-add, arith}
+use Rattle.std.proofs.Common.{◌≡◌, ◌≢◌, ◌∙◌, inl, ℕ, zero, suc, ◌+◌, ◌<◌, ◌==◌, Bool, true, false, not, List, [], ◌∷◌, ◌++◌, map, filter, length, replicate, take, drop, slice_set, refl, ap, sym, subst, add-one, zero-add, arith}
 use Rattle.std.specs.List.{range_with_len}
 use Rattle.std.proofs.lemmas.List.{get_or-set_other}
 use Rattle.std.proofs.lemmas.Bool.Decides.{nat_tests}
 use Rattle.raid_base.specs.declared.cells.Cell.{Cell}
-use Rattle.raid_base.specs.Cells.{zeros, zero_cell, plain_cell, has_unit}
+use Rattle.raid_base.specs.Cells.{zero_cell, plain_cell, has_unit}
 use Rattle.raid_xor.specs.Sums.{xor_of, sum_of}
 use Rattle.raid_xor.specs.Laws.{AreBlocks}
-use Rattle.raid_xor.proofs.XorLemmas.{length-xor_of, length-sum_of, sum_of-cons}
+use Rattle.raid_xor.proofs.XorLemmas.{length-sum_of, sum_of-cons}
 use Rattle.row_plans.specs.Plans.{fold_small, parity_of}
 use Rattle.row_plans.proofs.Parities.{bytes-parity_of, order_free, split, AreBlocks-split}
 use Rattle.degraded_plans.specs.Missing.{missing_of}
 use Rattle.degraded_plans.specs.Rows.{AreDataCells, IsSound}
-use Rattle.degraded_plans.specs.Laws.{Change, folded_small, folded_from, Leaves, AreApart, cell_of, units_but, others, IsByUnits}
+use Rattle.degraded_plans.specs.Laws.{Change, folded_small, folded_from, Leaves, AreApart, cell_of, IsByUnits}
 use Rattle.degraded_plans.proofs.SoundRows.{parity_sound}
 use Rattle.degraded_plans.proofs.Writes.{once}
 

@@ -1,5 +1,5 @@
 -- What keeps a row sound, seen from one of its units.
-use Rattle.std.proofs.Common.{◌≡◌, ◌≢◌, ◌∙◌, ◌⊎◌, inl, inr, ℕ, zero, suc, ◌+◌, ◌-◌, ◌*◌, ◌^◌, ◌<◌, ◌≤◌, ◌==◌, Bool, true, false, not, List, [], ◌∷◌, ◌++◌, length, bit_or, fold, refl, ap, sym, subst, add-one, arith}
+use Rattle.std.proofs.Common.{◌≡◌, ◌∙◌, inl, inr, ℕ, suc, ◌+◌, ◌*◌, ◌^◌, ◌<◌, ◌==◌, true, false, List, [], ◌∷◌, ◌++◌, length, bit_or, fold, refl, ap, sym, subst, add-one, arith}
 use Rattle.std.specs.Int.Bits.{or_zero_r}
 use Rattle.std.proofs.lemmas.Nat.{pow_pos, or_comm, or_shifted, or_lt}
 use Rattle.std.proofs.Math.Nat.{two-pow-succ, add_comm, zero-add, one-mul, mul-one}
@@ -7,15 +7,15 @@ use Rattle.std.proofs.Math.Pow.{pow-lt}
 use Rattle.std.proofs.lemmas.List.Sums.{fold-append}
 use Rattle.std.proofs.lemmas.Bool.Decides.{nat_tests}
 use Rattle.raid_base.specs.declared.cells.Cell.{Cell}
-use Rattle.raid_base.specs.Cells.{zeros, zero_cell, plain_cell, has_unit, with_unit, without_unit}
+use Rattle.raid_base.specs.Cells.{zeros, plain_cell, has_unit, with_unit, without_unit}
 use Rattle.raid_xor.specs.Sums.{xor_of, sum_of}
 use Rattle.raid_xor.specs.Laws.{AreBlocks}
 use Rattle.raid_xor.proofs.XorLemmas.{xor_of-comm, xor_of-assoc, zero_last, zero_first, itself, cancel, swap, same_from_zero, sum_of-cons, sum_of-append, length-sum_of, length-xor_of, AreBlocks-append}
-use Rattle.row_plans.specs.Plans.{fold_small, fold_whole, parity_of}
+use Rattle.row_plans.specs.Plans.{fold_small, parity_of}
 use Rattle.row_plans.proofs.Parities.{same_cell, bytes-parity_of, lost-parity_of, marked, marks_of}
 use Rattle.degraded_plans.specs.Missing.{missing_of}
 use Rattle.degraded_plans.specs.Rows.{lost_from, IsDataCell, AreDataCells, IsSound}
-use Rattle.degraded_plans.proofs.Marks.{mark, mark_by, high, high_at, lost_all, lost_below, lost_from-cons, with_bit, has_none, has_one, without_none, without_one, with_none}
+use Rattle.degraded_plans.proofs.Marks.{mark, mark_by, high, high_at, lost_all, lost_below, with_bit, has_none, has_one, without_none, without_one, with_none}
 
 -- the parity's bytes are the sum of the data, and the other way round
 pub parity_sum : (parity : Cell) (cells : List Cell) → AreBlocks (parity ∷ cells) → sum_of (parity ∷ cells) ≡ zeros → parity.bytes ≡ sum_of cells

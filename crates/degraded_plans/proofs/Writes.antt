@@ -1,14 +1,14 @@
 -- Whole writes of a row, one change after another.
-use Rattle.std.proofs.Common.{◌≡◌, ◌≢◌, ◌∙◌, inl, ℕ, zero, suc, ◌+◌, ◌<◌, List, [], ◌∷◌, ◌++◌, length, take, drop, slice_index_or, slice_set, refl, ap, sym, subst, add-one, arith}
+use Rattle.std.proofs.Common.{◌≡◌, ◌∙◌, ℕ, zero, suc, ◌+◌, ◌<◌, List, [], ◌∷◌, ◌++◌, length, take, drop, slice_index_or, slice_set, refl, ap, sym, subst, add-one, arith}
 use Rattle.std.proofs.lemmas.List.{length-set, length-take-le, get_or-set_other}
 use Rattle.raid_base.specs.declared.cells.Cell.{Cell}
-use Rattle.raid_base.specs.Cells.{zeros, zero_cell, plain_cell}
+use Rattle.raid_base.specs.Cells.{zero_cell, plain_cell}
 use Rattle.raid_xor.specs.Sums.{xor_of}
 use Rattle.raid_xor.specs.Laws.{AreBlocks}
 use Rattle.raid_xor.proofs.XorLemmas.{length-xor_of}
 use Rattle.row_plans.specs.Plans.{fold_small, parity_of}
 use Rattle.degraded_plans.specs.Missing.{missing_of}
-use Rattle.degraded_plans.specs.Rows.{AreDataCells, IsSound}
+use Rattle.degraded_plans.specs.Rows.{IsSound}
 use Rattle.degraded_plans.specs.Laws.{Change, changed, folded_small, AreChanges, Leaves, others, IsMade}
 use Rattle.degraded_plans.proofs.SoundRows.{missing_is, small_sound, parity_sound, parity_blocks}
 

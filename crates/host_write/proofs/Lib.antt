@@ -1,1 +1,4 @@
 pub mod ParityLemmas
+pub mod PutLemmas
+pub mod ClaimLemmas
+pub mod PuttingLemmas

@@ -31,22 +31,20 @@ pub fn rank(units: &[u8], unit: u8) -> usize
 }
 
 /// The place of a unit's block among the blocks of the job.
-pub fn block_no(n: u8, part: RowPart, unit: u8) -> u8
-    requires few { 3 ≤ n × (n ≤ 16) }
-    requires at { part.at + length (units_in n part.mask) < 128 }
+pub fn block_no(n: u8, part: RowPart, unit: u8) -> usize
+    requires { 3 ≤ n × (n ≤ 16) }
     ensures value { result ≡ part.at + rank unit (units_in n part.mask) }
-    ensures within { result < 128 }
+    ensures within { result ≤ part.at + length (units_in n part.mask) }
 {
     let units = units_in(n, part.mask);
-    part.at + rank(units.as_slice(), unit) as u8
+    part.at as usize + rank(units.as_slice(), unit)
 }
 
 /// A unit's block.
 pub fn block_at(job: &Assignment, blocks: &[[u8; 64]], part: RowPart, unit: u8) -> [u8; 64]
-    requires { part.at + length (units_in job.now.n part.mask) < 128 }
     ensures { result ≡ block_at (access_of job.now blocks.now) part unit }
 {
-    let place = block_no(job.n, part, unit) as usize;
+    let place = block_no(job.n, part, unit);
     if place < blocks.len() {
         blocks[place]
     } else {
@@ -71,8 +69,7 @@ fn data_put(
     part: RowPart,
     unit: u8,
 ) -> Errand
-    requires at { part.at + length (units_in job.now.n part.mask) < 128 }
-    requires unit { unit < job.now.n - 1 }
+    requires { unit < job.now.n - 1 }
     ensures { result ≡ put job.now.id part.row number (plain_cell (block_at (access_of job.now blocks.now) part unit)) (bay_of job.now.n part.row unit) }
 {
     let cell = Cell {
@@ -84,7 +81,6 @@ fn data_put(
 
 /// The puts of the wanted units of a row that are there.
 pub fn data_puts(job: &Assignment, blocks: &[[u8; 64]], number: Number, row: &Row) -> Queue
-    requires { row.now.part.at + length (units_in job.now.n row.now.part.mask) < 128 }
     ensures value { result ≡ data_puts (access_of job.now blocks.now) number row.now }
     ensures few { length result ≤ 15 }
 {

@@ -2,6 +2,9 @@
 #![tactic(auto)]
 
 pub mod blocks;
+pub mod claims;
 pub mod parity;
 pub mod puts;
+pub mod putting;
+pub mod stages;
 pub mod troubles;

@@ -3,12 +3,16 @@ ghost use Rattle.std.specs.Prelude.{◌≡◌, ℕ, List, [], ◌∷◌, ◌++�
 ghost use Rattle.arrayvec.specs.ArrayVec.{array_vec_len};
 ghost use Rattle.stripe_layout.specs.Placement.{units_in};
 ghost use Rattle.virtual_objects.specs.Objects.{rank};
-ghost use Rattle.attempts.specs.Puts.{missing_units, flags};
+ghost use Rattle.std.specs.List.{list_all};
+ghost use Rattle.attempts.specs.Accesses.{access_of};
+ghost use Rattle.attempts.specs.Releases.{is_among};
+ghost use Rattle.attempts.specs.Puts.{missing_units, flags, trouble_cause, first_cause};
 
 use crate::blocks::block_no;
 use crate::troubles::Trouble;
 use arrayvec::ArrayVec;
-use attempts::units::Units;
+use attempts::assignment::Assignment;
+use attempts::units::{Units, units_in};
 use raid_base::{BayNo, Cause, Ended, Grant, Number, RowPart};
 use std::marker::Model;
 
@@ -46,12 +50,12 @@ fn push_blocks(made: &mut Made, n: u8, part: RowPart, units: &[u8])
     ensures below { All (λ block. block < 128) made.new.items }
 {
     for unit in units {
-        made.push(block_no(n, part, *unit));
+        made.push(block_no(n, part, *unit) as u8);
     }
 }
 
 impl Puts {
-    ghost use Rattle.attempts.specs.Puts.{no_puts, at_row, with_made, with_trouble, with_left, Robbed, part_by_quit};
+    ghost use Rattle.attempts.specs.Puts.{no_puts, at_row, with_made, with_trouble, with_left, Robbed, part_by_quit, written};
     ghost use Rattle.host_write.specs.Troubles.{trouble_in};
 
     /// Nothing was put yet.
@@ -111,6 +115,20 @@ impl Puts {
         self.troubles.push(Trouble::new(None, part));
     }
 
+    /// How the write ends once all is put.
+    pub fn written(&self, job: &Assignment, number: Number) -> Ended
+        ensures { (blocks : List (List ℕ)) → result ≡ written (access_of job.now blocks) number self.now }
+    {
+        match first_cause(job, self.made.as_slice(), self.troubles.as_slice()) {
+            Some(cause) => Ended::Part {
+                number,
+                made: flags(self.made.as_slice()),
+                cause,
+            },
+            None => Ended::Wrote { number },
+        }
+    }
+
     /// How the write ends where the host stops now: once a put was answered it is a part.
     pub fn part_by_quit(&self, number: Number) -> Ended
         ensures { result ≡ part_by_quit number self.now }
@@ -125,6 +143,57 @@ impl Puts {
             Ended::Refused(Cause::Quit)
         }
     }
+}
+
+fn is_among(made: &[u8], block: usize) -> bool
+    ensures { result ≡ is_among made.now block }
+{
+    made.iter().any(|place| *place as usize == block)
+}
+
+/// Whether all blocks of a part are made.
+#[tactic(auto, using(crate::proofs::PutLemmas::made))]
+fn is_row_made(n: u8, made: &[u8], part: RowPart) -> bool
+    requires { 3 ≤ n × (n ≤ 16) }
+    ensures { result ≡ list_all (λ unit. is_among made.now (part.at + rank unit (units_in n part.mask))) (units_in n part.mask) }
+{
+    let units = units_in(n, part.mask);
+    for i in 0..units.len() {
+        if !is_among(made, block_no(n, part, units[i])) {
+            return false;
+        }
+    }
+    true
+}
+
+/// The cause of a write that was done in part, by one trouble: a failed store always, and a note that was gone where its
+/// row is not made.
+fn trouble_cause(job: &Assignment, made: &[u8], trouble: &Trouble) -> Option<Cause>
+    ensures { (blocks : List (List ℕ)) → result ≡ trouble_cause (access_of job.now blocks) made.now trouble.now }
+{
+    let (fault, part) = trouble.told();
+    match fault {
+        Some(bay) => Some(Cause::Fault { bay }),
+        None => {
+            if is_row_made(job.n, made, part) {
+                None
+            } else {
+                Some(Cause::Seized { row: part.row })
+            }
+        }
+    }
+}
+
+/// The cause by the first trouble that counts.
+fn first_cause(job: &Assignment, made: &[u8], troubles: &[Trouble]) -> Option<Cause>
+    ensures { (blocks : List (List ℕ)) → result ≡ first_cause (access_of job.now blocks) made.now troubles.now }
+{
+    for trouble in troubles {
+        if let Some(cause) = trouble_cause(job, made, trouble) {
+            return Some(cause);
+        }
+    }
+    None
 }
 
 /// Bit i for block i.

@@ -37,4 +37,11 @@ impl Trouble {
     {
         Trouble { fault, part }
     }
+
+    /// The bay whose store failed, or none where a note was gone, and then the part.
+    pub fn told(&self) -> (Option<BayNo>, RowPart)
+        ensures { self.now ≡ trouble_in result.0 result.1 }
+    {
+        (self.fault, self.part)
+    }
 }

@@ -132,3 +132,15 @@ begins-fails {s = s} later b e h is = appends-then b.appended (appends-stops s l
 -- nothing is left
 pub begins-ends : {K : Type 0} {tells : K → Bool} {written : K → List ℕ} {faults : K → ℕ} {before now : K} {whole rest : List ℕ} → Begins tells written faults before whole rest now → rest ≡ [] → Appends tells written faults before whole (Ok tt) now
 begins-ends b e = rw (b.parts ∙ ap (λ x. b.done ++ x) e ∙ append-nil b.done) b.appended
+
+-- one more item, and an item that fails, by another name
+pub appends-item : {K : Type 0} {tells : K → Bool} {written : K → List ℕ} {faults : K → ℕ} {before between now : K} {X : Type 0} (f : X → List ℕ) (xs : List X) (i : ℕ) (d x : X) → i < length xs → get_or xs i d ≡ x → Appends tells written faults before (flat_map f (take i xs)) (Ok tt) between → Appends tells written faults between (f x) (Ok tt) now → Appends tells written faults before (flat_map f (take (i + 1) xs)) (Ok tt) now
+appends-item f xs i d x h e g k = appends-then g k (flat_map-turn f xs i d h ∙ ap (λ y. flat_map f (take i xs) ++ f y) e)
+
+pub item-fails : {K : Type 0} {tells : K → Bool} {written : K → List ℕ} {faults : K → ℕ} {before between now : K} {X : Type 0} {e : Failed} {s : Result Unit Failed} (f : X → List ℕ) (xs : List X) (i : ℕ) (d x : X) → i < length xs → get_or xs i d ≡ x → Appends tells written faults before (flat_map f (take i xs)) (Ok tt) between → Appends tells written faults between (f x) (Err e) now → IsErr s → Appends tells written faults before (flat_map f xs) s now
+item-fails {s = s} f xs i d x h e g k is =
+    appends-stops s (flat_map f (drop (i + 1) xs)) (appends-then g k (flat_map-turn f xs i d h ∙ ap (λ y. flat_map f (take i xs) ++ f y) e)) is (flat_map-rest f xs (i + 1))
+
+-- what was to follow a failure
+pub stops-before : {K : Type 0} {tells : K → Bool} {written : K → List ℕ} {faults : K → ℕ} {before now : K} {a : List ℕ} {e : Failed} (rest : List ℕ) → Appends tells written faults before a (Err e) now → Appends tells written faults before (a ++ rest) (Err e) now
+stops-before {e = e} rest h = appends-stops (Err e) rest h refl refl

@@ -41,32 +41,7 @@ found-later host hosts i x h e t =
 pub found-none : (host : HostNo) (hosts : List HostJobs) (i : ℕ) → length hosts ≤ i → jobs_in (find (is_of host) (drop i hosts)) ≡ []
 found-none host hosts i h = at_drop_all (λ hs. jobs_in (find (is_of host) hs)) hosts i h
 
--- the jobs of a script are short
-short-task : (script : Script) (host : HostNo) (task : Task) → IsTask script host task → task_blocks task ≤ 120
-short-task script host (Read object first count) h = h.few
-short-task script host (Write object first from count) h = h.few
-short-task script host (Recover row) h = omega arith
-short-task script host (Lose bay) h = omega arith
-short-task script host (Fit bay) h = omega arith
-short-task script host (Rebuild bay) h = omega arith
-
-abbrev IsShort : Job → Type 0
-IsShort job = task_blocks job.task ≤ 120
-
-short-choice : (b : Bool) (h : HostJobs) (rest : Option HostJobs) → All IsShort h.jobs → All IsShort (jobs_in rest) → All IsShort (jobs_in (cond b (Some h) rest))
-short-choice true h rest here later = here
-short-choice false h rest here later = later
-
-short-found : (script : Script) (host : HostNo) (hosts : List HostJobs) → All (λ (h : HostJobs). All (IsJob script h.host) h.jobs) hosts → All IsShort (jobs_in (find (is_of host) hosts))
-short-found script host [] a = λ k d l. absurd (omega arith)
-short-found script host (h ∷ hosts) a =
-    short-choice (is_of host h) h (find (is_of host) hosts)
-    (λ k d l. short-task script h.host (get_or h.jobs k d).task (a 0 h (omega arith) k d l).task)
-    (short-found script host hosts (λ k d l. a (suc k) d (omega arith)))
-
-pub short-job : (script : Script) (host : HostNo) (i : ℕ) (job : Job) → IsScript script → i < length (jobs_of script host) → job ≡ get_or (jobs_of script host) i job → task_blocks job.task ≤ 120
-short-job script host i job s h e = let P : Job → Type 0 = IsShort in subst P (sym e) (short-found script host script.hosts s.jobs i job h)
-
+-- a job that is not there
 pub none-got : (jobs : List Job) (i : ℕ) → length jobs ≤ i → slice_get jobs i ≡ None
 none-got [] i h = refl
 none-got (j ∷ jobs) zero h = absurd (omega arith)
@@ -76,9 +51,13 @@ none-got (j ∷ jobs) (suc i) h = none-got jobs i (omega arith)
 abbrev pub jobs_left : Script → List JobResult → List Content → List ℕ
 jobs_left script results contents = job_lines results (contents_by_result script results contents) (map (flags_of script) results)
 
-pub jobs-turn : (script : Script) (results : List JobResult) (contents : List Content) (i : ℕ) (d : JobResult) → i < length results
-    → let r = get_or results i d in jobs_left script (drop i results) contents ≡ job_line r (take (contents_of script r) contents) (flags_of script r) ++ jobs_left script (drop (i + 1) results) (drop (contents_of script r) contents)
-jobs-turn script results contents i d h = at_drop_more (λ rs. jobs_left script rs contents) results i d h
+pub jobs-turn : (script : Script) (results : List JobResult) (contents read later : List Content) (i count flags : ℕ) (d : JobResult) → i < length results
+    → count ≡ contents_of script (get_or results i d) → read ≡ take count contents → later ≡ drop count contents → flags ≡ flags_of script (get_or results i d)
+    → jobs_left script (drop i results) contents ≡ job_line (get_or results i d) read flags ++ jobs_left script (drop (i + 1) results) later
+jobs-turn script results contents read later i count flags d h c r l f =
+    let first : read ≡ take (contents_of script (get_or results i d)) contents = r ∙ ap (λ n. take n contents) c in
+    let others : later ≡ drop (contents_of script (get_or results i d)) contents = l ∙ ap (λ n. drop n contents) c in
+    rw (first, others, f) (at_drop_more (λ rs. jobs_left script rs contents) results i d h)
 
 pub jobs-end : (script : Script) (results : List JobResult) (contents : List Content) (i : ℕ) → length results ≤ i → jobs_left script (drop i results) contents ≡ []
 jobs-end script results contents i h = at_drop_all (λ rs. jobs_left script rs contents) results i h

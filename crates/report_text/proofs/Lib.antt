@@ -1,4 +1,5 @@
 pub mod Appending
+pub mod BlockLines
 pub mod JobLookup
 pub mod OtherUnits
 pub mod RowLines

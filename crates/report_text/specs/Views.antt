@@ -2,6 +2,7 @@
 -- in the order of results.
 use Rattle.std.specs.Prelude.{ℕ, ◌-◌, ◌*◌, not, Bool, List, [], ◌∷◌, map, length, take, drop, slice_get, Option, Some, None}
 use Rattle.std.specs.List.{flat_map, range_with_len}
+use Rattle.raid_base.specs.declared.names.Name.{Name}
 use Rattle.raid_base.specs.declared.numbers.RowNo.{RowNo}
 use Rattle.raid_base.specs.declared.cells.Cell.{Cell}
 use Rattle.raid_base.specs.declared.cells.Content.{Content}
@@ -16,7 +17,7 @@ use Rattle.raid_base.specs.declared.jobs.JobEnd.TheVariants as ends
 use Rattle.raid_base.specs.declared.jobs.JobResult.{JobResult}
 use Rattle.virtual_objects.specs.Objects.{Object, Address, place}
 use Rattle.script_text.specs.Script.{Script, jobs_of}
-use Rattle.report_text.specs.Report.{ReportOf}
+use Rattle.report_text.specs.Report.{ReportOf, block_line}
 use Rattle.report_text.specs.Rows.{shown_in}
 
 -- how many blocks a job reads or writes
@@ -58,9 +59,13 @@ contents_by_result script [] contents = []
 contents_by_result script (result ∷ results) contents =
     take (contents_of script result) contents ∷ contents_by_result script results (drop (contents_of script result) contents)
 
--- the blocks of an object
+-- the first blocks of an object, so many
+abbrev pub first_blocks : Name → ℕ → List Address
+first_blocks object count = map (λ block. record { object = object; block = block }) (range_with_len 0 count)
+
+-- and all of them, n - 1 in a row
 abbrev pub object_blocks : ℕ → Object → List Address
-object_blocks n object = map (λ block. record { object = object.name; block = block }) (range_with_len 0 (length object.rows * (n - 1)))
+object_blocks n object = first_blocks object.name (length object.rows * (n - 1))
 
 abbrev pub shown_place : ℕ → List (Option Cell) → List Bool → Option (RowNo × ℕ) → Shown
 shown_place n cells opened None = Hidden
@@ -69,6 +74,10 @@ shown_place n cells opened (Some (row, unit)) = shown_in n cells opened row unit
 -- what is shown of a block
 abbrev pub shown_block : ℕ → List Object → List (Option Cell) → List Bool → Address → Shown
 shown_block n objects cells opened address = shown_place n cells opened (place n objects address)
+
+-- its line
+abbrev pub shown_line : ℕ → List Object → List (Option Cell) → List Bool → Address → List ℕ
+shown_line n objects cells opened address = block_line (address, shown_block n objects cells opened address)
 
 abbrev pub report_in : Script → List JobResult → List Content → List Turn → List (Option Cell) → List Bool → ReportOf
 report_in script results contents turns cells opened = record {

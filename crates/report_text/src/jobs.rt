@@ -1,7 +1,6 @@
 //! The lines of all results.
 ghost use Rattle.std.specs.Prelude.{◌≡◌, ◌==◌, ◌≤◌, map, find, take, drop};
 ghost use Rattle.script_text.specs.Script.{HostJobs, jobs_in};
-ghost use Rattle.script_text.specs.Ranges.{IsScript};
 ghost use Rattle.report_text.specs.Appends.{Appends};
 ghost use Rattle.report_text.specs.Report.{job_lines};
 ghost use Rattle.report_text.specs.Views.{task_blocks, blocks_of_result, content_count, flag_count, contents_of, flags_of, contents_by_result};
@@ -38,9 +37,7 @@ fn jobs_of(hosts: &[HostJobs], host: HostNo) -> &[Job]
 
 /// How many blocks the job of a result reads or writes.
 fn blocks_of_result(script: &Script, ended: &JobResult) -> u8
-    requires { IsScript script.now }
-    ensures value { result ≡ blocks_of_result script.now ended.now }
-    ensures few { result ≤ 120 }
+    ensures { result ≡ blocks_of_result script.now ended.now }
 {
     let jobs = jobs_of(script.hosts.as_slice(), ended.host);
     match jobs.get(ended.job as usize) {
@@ -61,8 +58,7 @@ fn content_count(end: &JobEnd, blocks: u8) -> u8
 
 /// How many flags a result has, of a job of so many blocks.
 fn flag_count(end: &JobEnd, blocks: u8) -> u8
-    ensures value { result ≡ flag_count end.now blocks }
-    ensures few { result ≤ blocks }
+    ensures { result ≡ flag_count end.now blocks }
 {
     match *end {
         JobEnd::Part { .. } => blocks,
@@ -72,7 +68,6 @@ fn flag_count(end: &JobEnd, blocks: u8) -> u8
 
 /// How many contents a result has.
 fn contents_of(script: &Script, ended: &JobResult) -> u8
-    requires { IsScript script.now }
     ensures { result ≡ contents_of script.now ended.now }
 {
     content_count(&ended.end, blocks_of_result(script, ended))
@@ -80,9 +75,7 @@ fn contents_of(script: &Script, ended: &JobResult) -> u8
 
 /// How many flags a result has.
 fn flags_of(script: &Script, ended: &JobResult) -> u8
-    requires { IsScript script.now }
-    ensures value { result ≡ flags_of script.now ended.now }
-    ensures few { result ≤ 120 }
+    ensures { result ≡ flags_of script.now ended.now }
 {
     flag_count(&ended.end, blocks_of_result(script, ended))
 }
@@ -103,7 +96,6 @@ pub fn put_jobs<K: Sink>(
     results: &[JobResult],
     contents: &[Content],
 ) -> Result<(), Failed>
-    requires { IsScript script.now }
     ensures { Appends K.tells K.written K.faults sink.old (job_lines results.now (contents_by_result script.now results.now contents.now) (map (flags_of script.now) results.now)) result sink.new }
 {
     let mut left = contents;

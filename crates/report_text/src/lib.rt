@@ -1,13 +1,20 @@
 //! The text of a report.
+//!
+//! A report says how each job ended and what reads have read, the turns, what each block of each object holds, and which
+//! rows are closed. It is written to a sink line by line, with no memory but small buffers.
 #![tactic(auto)]
 
 mod blocks;
 mod jobs;
 mod lines;
 mod present;
-pub mod rows;
+pub mod report;
+mod rows;
 mod sections;
-#[cfg(test)]
-mod tests;
 mod texts;
 mod words;
+
+pub use report::{Final, shown, write_report};
+
+#[cfg(test)]
+mod tests;

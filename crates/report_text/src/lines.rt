@@ -86,7 +86,6 @@ fn put_read<K: Sink>(sink: &mut K, number: Number, contents: &[Content]) -> Resu
 
 /// Appends which of so many blocks are made.
 fn put_flags<K: Sink>(sink: &mut K, made: u128, blocks: u8) -> Result<(), Failed>
-    requires { blocks ≤ 120 }
     ensures { Appends K.tells K.written K.faults sink.old (spaced (flags_text made blocks)) result sink.new }
 {
     let flags = flags(made);
@@ -101,7 +100,6 @@ fn put_part<K: Sink>(
     blocks: u8,
     cause: &Cause,
 ) -> Result<(), Failed>
-    requires { blocks ≤ 120 }
     ensures { Appends K.tells K.written K.faults sink.old (flat_map spaced (codes "part" ∷ decimal number.0 ∷ flags_text made blocks ∷ cause_words cause.now)) result sink.new }
 {
     put_number(sink, b"part", number.0)?;
@@ -148,7 +146,6 @@ fn put_end<K: Sink>(
     contents: &[Content],
     blocks: u8,
 ) -> Result<(), Failed>
-    requires { blocks ≤ 120 }
     ensures { Appends K.tells K.written K.faults sink.old (flat_map spaced (end_words end.now contents.now blocks)) result sink.new }
 {
     match *end {
@@ -193,7 +190,6 @@ pub fn put_job<K: Sink>(
     contents: &[Content],
     blocks: u8,
 ) -> Result<(), Failed>
-    requires { blocks ≤ 120 }
     ensures { Appends K.tells K.written K.faults sink.old (job_line ended.now contents.now blocks) result sink.new }
 {
     put_job_name(sink, ended)?;

@@ -1,12 +1,14 @@
 //! Lines byte for byte, and what rows show.
 
 use crate::lines::{put_block, put_job};
+use crate::report::{Final, write_report};
 use crate::rows::shown_in;
 use crate::sections::{put_rows, put_turns};
 use raid_base::{
     BayNo, Cause, Cell, Content, HostNo, JobEnd, JobResult, MemorySink, Name, Note, Number, RowNo,
     Shown, Turn,
 };
+use script_text::read_first;
 use std::test::Fail;
 
 /// 64 bytes, the first of them another.
@@ -220,4 +222,96 @@ fn a_row_shows_what_can_be_told(rt: HostRuntime) {
             shown
         );
     }
+}
+
+const SCRIPT: &[u8] = b"raid 1
+devices 3
+rows 1
+mode order
+patience 3
+tries 2
+object a 0
+host 1
+write a 0 41
+read a 0 1
+end
+";
+
+const REPORT: &[u8] = b"report 1
+job 1 0 wrote 1
+job 1 1 read 17 41
+turns 7
+turn 1 1
+turn 1 2
+turn 1 3
+turn 1 4
+turn 1 5
+turn 1 6
+turn 1 7
+block a 0 41
+block a 1 00
+row 0 closed
+end
+";
+
+fn turn(moment: u64) -> Turn {
+    Turn {
+        host: HostNo(1),
+        moment,
+    }
+}
+
+/// The report of the smallest array, into a sink with this much room.
+fn written(rt: &HostRuntime, room: u32) -> Result<(MemorySink, bool), Fail> {
+    let script = read_first(rt.alloc(), SCRIPT)?.ok_or("no script")?;
+    let host = HostNo(1);
+    let results = [
+        JobResult {
+            host,
+            job: 0,
+            end: JobEnd::Wrote { number: Number(1) },
+        },
+        JobResult {
+            host,
+            job: 1,
+            end: JobEnd::Read { number: Number(17) },
+        },
+    ];
+    let turns = [
+        turn(1),
+        turn(2),
+        turn(3),
+        turn(4),
+        turn(5),
+        turn(6),
+        turn(7),
+    ];
+    let view = Final {
+        script: &script,
+        results: &results,
+        contents: &[Content::Bytes([0x41; 64])],
+        turns: &turns,
+        cells: &[cell(0x41, 0), cell(0, 0), cell(0x41, 0)],
+        opened: &[false],
+    };
+    let mut sink = MemorySink::make(rt.alloc(), room, Vec::new(rt.alloc()))?;
+    let is_done = write_report(&mut sink, &view).is_ok();
+    Ok((sink, is_done))
+}
+
+#[test]
+fn the_smallest_array_is_reported(rt: HostRuntime) -> Result<(), Fail> {
+    let (sink, is_done) = written(&rt, 1000)?;
+    assert!(rt; is_done);
+    assert!(rt; sink.written() == REPORT);
+    Ok(())
+}
+
+#[test]
+fn a_full_sink_has_a_first_part_of_the_report(rt: HostRuntime) -> Result<(), Fail> {
+    let (sink, is_done) = written(&rt, 35)?;
+    assert!(rt; !is_done);
+    assert_eq!(rt; sink.faults(), 1);
+    assert!(rt; sink.written() == b"report 1\njob 1 0 wrote 1\njob 1 1 re".as_slice());
+    Ok(())
 }

@@ -45,18 +45,20 @@ pub fn row_word(closed: bool) -> &'static [u8]
 
 /// Whether a block is made: 1 or 0.
 fn flag(made: u128, block: u8) -> u8
-    requires { block ≤ 119 }
     ensures { result ≡ flag made block }
 {
+    if block >= 128 {
+        return b'0';
+    }
     if (made >> block) & 1 == 1 { b'1' } else { b'0' }
 }
 
-/// A digit for each of 120 blocks.
-pub fn flags(made: u128) -> [u8; 120]
-    ensures { result ≡ map (flag made) (range_with_len 0 120) }
+/// A digit for each of 255 blocks.
+pub fn flags(made: u128) -> [u8; 255]
+    ensures { result ≡ map (flag made) (range_with_len 0 255) }
 {
-    let mut digits = [b'0'; 120];
-    for block in 0..120u8 {
+    let mut digits = [b'0'; 255];
+    for block in 0..255u8 {
         digits[block as usize] = flag(made, block);
     }
     digits

@@ -1,5 +1,5 @@
 -- How parities add up, and which plan reads the fewest cells.
-use Rattle.std.proofs.Common.{◌≡◌, ◌∙◌, ℕ, ◌+◌, ◌-◌, ◌<◌, ◌≤◌, ◌==◌, nat_le, Bool, true, false, not, List, [], ◌∷◌, ◌++◌, map, filter, length, fold, bit_or, max, cond, refl, ap, sym, arith}
+use Rattle.std.proofs.Common.{◌≡◌, ◌∙◌, ℕ, ◌+◌, ◌-◌, ◌<◌, ◌≤◌, ◌==◌, nat_le, Bool, true, false, not, List, [], ◌∷◌, ◌++◌, map, filter, fold, bit_or, max, cond, refl, ap, sym, arith}
 use Rattle.std.specs.Int.{bit_at}
 use Rattle.std.specs.Int.Bits.{or_zero_r, or_zero_l}
 use Rattle.std.proofs.lemmas.Nat.Bits.{bit_at_or, same_from_bits}
@@ -8,10 +8,10 @@ use Rattle.std.proofs.lemmas.Bool.Decides.{nat_tests}
 use Rattle.raid_base.specs.declared.cells.Cell.{Cell}
 use Rattle.raid_base.specs.declared.jobs.Plan.{Plan}
 use Rattle.raid_base.specs.declared.jobs.Plan.TheVariants.{Full, Small, Reconstruct}
-use Rattle.raid_base.specs.Cells.{zeros, zero_cell}
+use Rattle.raid_base.specs.Cells.{zero_cell}
 use Rattle.raid_xor.specs.Sums.{xor_of, sum_of}
 use Rattle.raid_xor.specs.Laws.{AreBlocks}
-use Rattle.raid_xor.proofs.XorLemmas.{added, swap, length-xor_of, length-sum_of, sum_of-cons, sum_of-append, AreBlocks-append}
+use Rattle.raid_xor.proofs.XorLemmas.{added, swap, sum_of-cons, sum_of-append, AreBlocks-append}
 use Rattle.row_plans.specs.Plans.{choose, fold_whole, parity_of}
 use Rattle.row_plans.specs.Laws.{reads, Serves}
 

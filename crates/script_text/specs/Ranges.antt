@@ -1,38 +1,34 @@
 -- The scripts that have a text.
-use Rattle.std.specs.Prelude.{◌≡◌, ℕ, ◌+◌, ◌^◌, ◌<◌, ◌≤◌, List, [], ◌∷◌, map, length, All, sum, Option, Some, None}
-use Rattle.std.specs.List.{flat_map, Contains, IsDistinct}
-use Rattle.std.specs.Prelude.{eqb}
+use Rattle.std.specs.Prelude.{◌≡◌, ℕ, ◌+◌, ◌^◌, ◌<◌, ◌≤◌, List, [], ◌∷◌, length, All, Option, Some, None}
+use Rattle.std.specs.List.{flat_map, sum_by, Contains}
 use Rattle.raid_base.specs.declared.numbers.HostNo.{HostNo}
-use Rattle.raid_base.specs.declared.numbers.RowNo.{RowNo}
 use Rattle.raid_base.specs.declared.messages.Turn.{Turn}
 use Rattle.raid_base.specs.declared.names.Name.{Name}
 use Rattle.raid_base.specs.declared.jobs.Job.{Job}
 use Rattle.raid_base.specs.declared.jobs.Task.{Task}
 use Rattle.raid_base.specs.declared.jobs.Task.TheVariants.{Read, Write, Recover, Lose, Fit, Rebuild}
-use Rattle.raid_base.specs.Names.{IsNameText, is_text}
+use Rattle.raid_base.specs.Names.{IsNameText}
 use Rattle.virtual_objects.specs.Objects.{Object}
+use Rattle.virtual_objects.specs.Table.{AreObjects, ObjectTable}
 use Rattle.text_lines.specs.Blocks.{IsBlock}
 use Rattle.script_text.specs.Script.{Script, HostJobs, host_numbers}
 
--- the rows of all objects
-abbrev pub rows_held : List Object → List ℕ
-rows_held objects = flat_map (λ (object : Object). map (λ (row : RowNo). row.0) object.rows) objects
+-- the objects, with the numbers of devices and rows
+abbrev pub table_of : Script → ObjectTable
+table_of script = record { n = script.n; rows = script.rows; objects = script.objects }
 
--- objects with distinct names, each with rows of its own
-pub record AreScriptObjects (rows : ℕ) (objects : List Object) : Type 0 where
-  pub few : length objects ≤ 64
-  pub names : All (λ (object : Object). IsNameText object.name) objects
-  pub names_apart : IsDistinct is_text (map (λ (object : Object). object.name) objects)
-  pub rows_some : All (λ (object : Object). 0 < length object.rows) objects
-  pub rows_apart : IsDistinct eqb (rows_held objects)
-  pub rows_below : All (λ row. row < rows) (rows_held objects)
-
--- first and last block of a read or write
+-- the name and the blocks of a read or write
 pub record IsAccess (object : Name) (first count : ℕ) : Type 0 where
   pub name : IsNameText object
   pub low : first < 2 ^ 20
   pub some : 1 ≤ count
   pub few : count ≤ 120
+
+-- the blocks of a task that reads or writes
+abbrev pub HasAccess : Task → Type 0
+HasAccess (Read object first count) = IsAccess object first count
+HasAccess (Write object first from count) = IsAccess object first count
+HasAccess _ = Unit {0}
 
 -- what a host may be told to do; bays are lost, fitted and rebuilt by the operator alone
 abbrev pub IsTask : Script → HostNo → Task → Type 0
@@ -62,7 +58,7 @@ blocks_written (Write object first from count) = count
 blocks_written _ = 0
 
 abbrev pub all_written : List Job → ℕ
-all_written jobs = sum (map (λ (job : Job). blocks_written job.task) jobs)
+all_written jobs = sum_by (λ (job : Job). blocks_written job.task) jobs
 
 -- a write's blocks begin here
 abbrev pub WritesFrom : ℕ → Task → Type 0
@@ -87,7 +83,8 @@ pub record IsScript (script : Script) : Type 0 where
   pub patience : script.patience < 2 ^ 40
   pub tries_least : 1 ≤ script.tries
   pub tries_most : script.tries ≤ 64
-  pub objects : AreScriptObjects script.rows script.objects
+  pub objects : AreObjects (table_of script)
+  pub names : All (λ (object : Object). IsNameText object.name) script.objects
   pub hosts : Rise 0 (host_numbers script)
   pub jobs : All (λ (host : HostJobs). All (IsJob script host.host) host.jobs) script.hosts
   pub blocks : All IsBlock script.blocks

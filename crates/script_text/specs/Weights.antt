@@ -1,5 +1,6 @@
 -- How many requests a script may need.
-use Rattle.std.specs.Prelude.{ℕ, ◌*◌, List, map, length, sum, Result, Ok, Err}
+use Rattle.std.specs.Prelude.{ℕ, ◌*◌, List, length, Result, Ok, Err}
+use Rattle.std.specs.List.{sum_by}
 use Rattle.raid_base.specs.declared.numbers.HostNo.{HostNo}
 use Rattle.raid_base.specs.declared.jobs.Job.{Job}
 use Rattle.raid_base.specs.declared.jobs.Task.{Task}
@@ -23,7 +24,7 @@ weight script (Lose bay) = 1
 weight script (Fit bay) = 1
 
 abbrev pub weights : Script → List Job → ℕ
-weights script jobs = sum (map (λ (job : Job). weight script job.task) jobs)
+weights script jobs = sum_by (λ (job : Job). weight script job.task) jobs
 
 -- those of a host
 abbrev pub quota : Script → HostNo → ℕ
@@ -31,4 +32,4 @@ quota script host = weights script (jobs_of script host)
 
 -- those of all hosts at all bays
 abbrev pub total : Script → ℕ
-total script = script.n * sum (map (λ (host : HostJobs). weights script host.jobs) script.hosts)
+total script = script.n * sum_by (λ (host : HostJobs). weights script host.jobs) script.hosts

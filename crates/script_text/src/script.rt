@@ -60,3 +60,14 @@ impl Model for Script {
 
     ghost invariant = { λ script. (script.objects.n ≡ script.n) × (script.objects.rows ≡ script.rows) };
 }
+
+impl Script {
+    ghost use Rattle.std.specs.Prelude.{◌≡◌};
+
+    /// The hosts with their jobs, rising by their numbers.
+    pub fn hosts(&self) -> &[HostJobs]
+        ensures { result.now ≡ self.now.hosts }
+    {
+        self.hosts.as_slice()
+    }
+}

@@ -4,11 +4,11 @@ use Rattle.std.specs.Prelude.{find}
 use Rattle.raid_base.specs.declared.jobs.Job.{Job}
 use Rattle.script_text.specs.Script.{Script, HostJobs, jobs_in, jobs_of}
 use Rattle.report_text.specs.Views.{job_blocks}
-use Rattle.report_text.proofs.JobLookup.{is_of, short-job, none-got}
+use Rattle.report_text.proofs.JobLookup.{is_of, none-got}
 use Rattle.report_text.proofs.jobs.blocks_of_result.Goals as goal
 
-pub returns-in-Some-clause-value : goal.returns-in-Some-clause-value
-returns-in-Some-clause-value c =
+pub returns-in-Some : goal.returns-in-Some
+returns-in-Some c =
     let host = c.args.ended.now.host in
     let i = c.args.ended.now.job in
     let jobs = c.jobs_of-jobs.result.now in
@@ -17,18 +17,8 @@ returns-in-Some-clause-value c =
     let got : slice_get jobs i ≡ Some c.in-Some.job.now = slice_get-get_or jobs i c.in-Some.job.now found.3.0 ∙ ap (λ j. Some j) (sym found.1) in
     c.task_blocks.ensures ∙ sym (ap job_blocks (ap (λ js. slice_get js i) (sym jobs_is) ∙ got))
 
-pub returns-in-Some-clause-few : goal.returns-in-Some-clause-few
-returns-in-Some-clause-few c =
-    let host = c.args.ended.now.host in
-    let i = c.args.ended.now.job in
-    let jobs = c.jobs_of-jobs.result.now in
-    let found = c.in-Some.ensures.lookup in
-    let jobs_is : jobs ≡ jobs_of c.args.script.now host = c.jobs_of-jobs.ensures ∙ ap (λ hs. jobs_in (find (is_of host) hs)) (c.as_slice.ensures.value ∙ ap (λ (s : Script). s.hosts) c.script.view_is) in
-    let short = short-job c.args.script.now host i c.in-Some.job.now c.requires (omega (arith, ap length jobs_is, found.3.0)) (found.1 ∙ ap (λ js. get_or js i c.in-Some.job.now) jobs_is) in
-    omega (arith, short, c.task_blocks.ensures)
-
-pub returns-in-None-clause-value : goal.returns-in-None-clause-value
-returns-in-None-clause-value c =
+pub returns-in-None : goal.returns-in-None
+returns-in-None c =
     let host = c.args.ended.now.host in
     let i = c.args.ended.now.job in
     let jobs = c.jobs_of-jobs.result.now in

@@ -4,4 +4,4 @@ use Rattle.report_text.specs.Report.{flag}
 use Rattle.report_text.proofs.texts.flags.Goals as goal
 
 pub returns : goal.returns
-returns c = fill_by_all (flag c.args.made) c.loop-block.digits 120 0 c.loop-block.invariant.0 (search rules)
+returns c = fill_by_all (flag c.args.made) c.loop-block.digits 255 0 c.loop-block.invariant.0 (search rules)

@@ -3,4 +3,4 @@ use Rattle.report_text.specs.Report.{flag}
 use Rattle.report_text.proofs.texts.flags.Given as goal
 
 abbrev pub invariant-loop-block : goal.invariant-loop-block
-invariant-loop-block l = (length l.digits ≡ 120) × ((k : ℕ) → k < l.block → get_or l.digits k 0 ≡ flag l.made k)
+invariant-loop-block l = (length l.digits ≡ 255) × ((k : ℕ) → k < l.block → get_or l.digits k 0 ≡ flag l.made k)

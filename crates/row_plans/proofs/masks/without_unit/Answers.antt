@@ -1,4 +1,4 @@
-use Rattle.std.proofs.Common.{◌≡◌, ◌∙◌, sym}
+use Rattle.std.proofs.Common.{◌∙◌, sym}
 use Rattle.std.proofs.lemmas.Nat.{one_shl}
 use Rattle.row_plans.proofs.UnitBits.{le_of_has}
 use Rattle.row_plans.proofs.masks.without_unit.Goals as goal

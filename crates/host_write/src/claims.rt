@@ -1,0 +1,214 @@
+//! What a write does next, while it claims its rows.
+ghost use Rattle.std.specs.Prelude.{◌≡◌, ℕ, List, [], ◌∷◌, ◌++◌, ◌+◌, ◌-◌, ◌<◌, ◌≤◌, true, length, drop};
+ghost use Rattle.arrayvec.specs.ArrayVec.{array_vec_len};
+ghost use Rattle.stripe_layout.specs.Placement.{bays_of, parity_bay, units_in, units_out};
+ghost use Rattle.raid_base.specs.Steps.{Through};
+ghost use Rattle.raid_base.specs.declared.messages.How.TheVariants.{Plain};
+ghost use Rattle.attempts.specs.Accesses.{access_of};
+ghost use Rattle.attempts.specs.Parts.{blocks_in, is_part};
+ghost use Rattle.attempts.specs.Taking.{Row as RowView, row_ended, shares, claims, claim, confirm, lacks};
+ghost use Rattle.attempts.specs.Releases.{write_releases, refused_steps};
+ghost use Rattle.attempts.specs.Puts.{Puts as PutsView, is_small_plan};
+ghost use Rattle.attempts.specs.Writing.{write_refused, claim_wanted, parity_claimed, small_claimed};
+ghost use Rattle.row_plans.specs.Plans.{choose};
+ghost use Rattle.host_write.specs.Stages.{is_kept, is_settled, are_rows, is_row};
+ghost use Rattle.host_write.specs.declared.stages.WriteStage.TheVariants.{ClaimSmall};
+ghost use Rattle.host_write.specs.Left.{left_of, rest_of, claim_reconstruct};
+
+use crate::parity::{is_small, plan_of};
+use crate::stages::{Ahead, WriteStage};
+use attempts::assignment::Assignment;
+use attempts::errands::{claim, claims, confirm, shares};
+use attempts::holds::{bays_of, push_write_row, write_releases};
+use attempts::queue::Queue;
+use attempts::rows::{Row, Taken, lacks};
+use attempts::units::{units_in, units_out};
+use raid_base::{Cause, How, Plan, RowPart};
+use stripe_layout::parity_bay;
+
+/// The claim of a row's parity.
+pub fn parity_claim(job: &Assignment, part: RowPart) -> Queue
+    requires some { 1 ≤ part.count }
+    requires most { part.count ≤ job.now.n - 1 }
+    ensures { result ≡ claim job.now.id part.row Plain part.mask (is_small_plan (choose (job.now.n - 1) part.count)) (parity_bay job.now.n part.row) ∷ [] }
+{
+    let want = is_small(plan_of(job, part));
+    let bay = parity_bay(job.n, part.row);
+    Queue::one(claim(job.id, part.row, How::Plain, part.mask, want, bay))
+}
+
+/// The claims of a part's units.
+fn wanted_claims(job: &Assignment, want: bool, part: RowPart) -> Queue
+    ensures value { result ≡ claims job.now.id part.row Plain want (bays_of job.now.n part.row (units_in job.now.n part.mask)) }
+    ensures len { length result ≡ length (units_in job.now.n part.mask) }
+    ensures few { length result ≤ 15 }
+{
+    let units = units_in(job.n, part.mask);
+    let bays = bays_of(job.n, part.row, units.as_slice());
+    claims(job.id, part.row, How::Plain, want, bays.as_slice())
+}
+
+/// The shares of the other units of its row.
+fn other_shares(job: &Assignment, part: RowPart) -> Queue
+    ensures value { result ≡ shares job.now.id part.row (bays_of job.now.n part.row (units_out job.now.n part.mask)) }
+    ensures few { length result ≤ 15 }
+{
+    let units = units_out(job.n, part.mask);
+    let bays = bays_of(job.n, part.row, units.as_slice());
+    shares(job.id, part.row, bays.as_slice())
+}
+
+/// What is given back of all that is held, where the write is refused while it claims.
+pub fn refused(job: &Assignment, taken: &Taken, cause: Cause) -> Ahead
+    requires { length taken.now.before < 8 }
+    ensures left { (blocks : List (List ℕ)) → (rows : List RowView) → (puts : PutsView) → left_of result.stage (access_of job.now blocks) taken.now rows puts result.queue ≡ write_refused (access_of job.now blocks) taken.now cause }
+    ensures kept { (rows : List RowView) → (puts : PutsView) → is_kept result.stage job.now.n job.now.parts.items (length result.queue) taken.now rows puts ≡ true }
+    ensures awake { is_settled result.stage ≡ true }
+{
+    let mut errands = write_releases(job.mode, job.n, job.id, taken.before());
+    push_write_row(&mut errands, job.mode, job.n, job.id, taken.row());
+    Ahead {
+        stage: WriteStage::Release { cause },
+        queue: Queue::new(errands),
+    }
+}
+
+/// The claims of the wanted units, which end the row in hand.
+pub fn claim_wanted(job: &Assignment, taken: &Taken, want: bool) -> Ahead
+    requires row { length taken.now.before < array_vec_len job.now.parts }
+    requires rows { are_rows job.now.n (blocks_in job.now.parts.items) taken.now.before ≡ true }
+    requires part { is_part job.now.n (blocks_in job.now.parts.items) taken.now.row.part ≡ true }
+    requires wanted { length taken.now.row.wanted ≡ 0 }
+    requires others { length taken.now.row.others ≤ 16 }
+    ensures left { (blocks : List (List ℕ)) → (rows : List RowView) → (puts : PutsView) → left_of result.stage (access_of job.now blocks) taken.now rows puts result.queue ≡ claim_wanted (access_of job.now blocks) (rest_of (access_of job.now blocks) taken.now) want taken.now }
+    ensures kept { (rows : List RowView) → (puts : PutsView) → is_kept result.stage job.now.n job.now.parts.items (length result.queue) taken.now rows puts ≡ true }
+    ensures awake { is_settled result.stage ≡ true }
+{
+    Ahead {
+        stage: WriteStage::ClaimWanted,
+        queue: wanted_claims(job, want, taken.row().part()),
+    }
+}
+
+/// The claims of the wanted units with their cells.
+fn claim_small(job: &Assignment, taken: &Taken) -> Ahead
+    requires row { length taken.now.before < array_vec_len job.now.parts }
+    requires rows { are_rows job.now.n (blocks_in job.now.parts.items) taken.now.before ≡ true }
+    requires part { is_part job.now.n (blocks_in job.now.parts.items) taken.now.row.part ≡ true }
+    requires wanted { length taken.now.row.wanted ≡ 0 }
+    requires others { length taken.now.row.others ≡ 0 }
+    ensures stage { result.stage ≡ ClaimSmall }
+    ensures queue { result.queue ≡ claims job.now.id taken.now.row.part.row Plain true (bays_of job.now.n taken.now.row.part.row (units_in job.now.n taken.now.row.part.mask)) }
+    ensures kept { (rows : List RowView) → (puts : PutsView) → is_kept result.stage job.now.n job.now.parts.items (length result.queue) taken.now rows puts ≡ true }
+{
+    Ahead {
+        stage: WriteStage::ClaimSmall,
+        queue: wanted_claims(job, true, taken.row().part()),
+    }
+}
+
+/// The shares of the other units up to the first that is missing, and then the claims.
+#[tactic(auto, using(crate::proofs::ClaimLemmas::none_asked))]
+fn share_until(job: &Assignment, taken: &Taken) -> Ahead
+    requires row { length taken.now.before < array_vec_len job.now.parts }
+    requires rows { are_rows job.now.n (blocks_in job.now.parts.items) taken.now.before ≡ true }
+    requires part { is_part job.now.n (blocks_in job.now.parts.items) taken.now.row.part ≡ true }
+    requires wanted { length taken.now.row.wanted ≡ 0 }
+    requires others { length taken.now.row.others ≡ 0 }
+    ensures left { (blocks : List (List ℕ)) → (rows : List RowView) → (puts : PutsView) → left_of result.stage (access_of job.now blocks) taken.now rows puts result.queue ≡ claim_reconstruct (access_of job.now blocks) (rest_of (access_of job.now blocks) taken.now) taken.now }
+    ensures kept { (rows : List RowView) → (puts : PutsView) → is_kept result.stage job.now.n job.now.parts.items (length result.queue) taken.now rows puts ≡ true }
+    ensures awake { is_settled result.stage ≡ true }
+{
+    let queue = other_shares(job, taken.row().part());
+    if queue.len() > 0 {
+        Ahead {
+            stage: WriteStage::ShareUntil,
+            queue,
+        }
+    } else {
+        claim_wanted(job, taken, false)
+    }
+}
+
+/// What follows the claim of the parity.
+#[tactic(auto, using(crate::proofs::ClaimLemmas::parts))]
+pub fn after_parity(job: &Assignment, taken: &Taken) -> Ahead
+    requires row { length taken.now.before < array_vec_len job.now.parts }
+    requires rows { are_rows job.now.n (blocks_in job.now.parts.items) taken.now.before ≡ true }
+    requires part { is_part job.now.n (blocks_in job.now.parts.items) taken.now.row.part ≡ true }
+    requires wanted { length taken.now.row.wanted ≡ 0 }
+    requires others { length taken.now.row.others ≡ 0 }
+    ensures left { (blocks : List (List ℕ)) → (rows : List RowView) → (puts : PutsView) → left_of result.stage (access_of job.now blocks) taken.now rows puts result.queue ≡ parity_claimed (access_of job.now blocks) (rest_of (access_of job.now blocks) taken.now) (Through taken.now) }
+    ensures kept { (rows : List RowView) → (puts : PutsView) → is_kept result.stage job.now.n job.now.parts.items (length result.queue) taken.now rows puts ≡ true }
+    ensures awake { is_settled result.stage ≡ true }
+{
+    match taken.row().parity() {
+        Some(_) => match plan_of(job, taken.row().part()) {
+            Plan::Full => claim_wanted(job, taken, false),
+            Plan::Small => claim_small(job, taken),
+            Plan::Reconstruct => share_until(job, taken),
+        },
+        None => claim_wanted(job, taken, false),
+    }
+}
+
+/// The confirm of a row's parity, with its cell where a unit was missing that is not wanted.
+pub fn row_confirm(job: &Assignment, row: &Row) -> Queue
+    ensures { result ≡ confirm job.now.id row.now.part.row (lacks row.now.others) (parity_bay job.now.n row.now.part.row) ∷ [] }
+{
+    let place = row.part().row;
+    let bay = parity_bay(job.n, place);
+    Queue::one(confirm(job.id, place, lacks(row.others()), bay))
+}
+
+/// Ends the row in hand, and takes the next in hand where there is one. After the last the rows are confirmed.
+#[tactic(auto, using(crate::proofs::ClaimLemmas::parts))]
+pub fn end_row(job: &Assignment, taken: &mut Taken) -> Ahead
+    requires row { length taken.old.before < array_vec_len job.now.parts }
+    requires rows { are_rows job.now.n (blocks_in job.now.parts.items) taken.old.before ≡ true }
+    requires this { is_row job.now.n (blocks_in job.now.parts.items) taken.old.row ≡ true }
+    ensures left { (blocks : List (List ℕ)) → (puts : PutsView) → left_of result.stage (access_of job.now blocks) taken.new [] puts result.queue ≡ rest_of (access_of job.now blocks) taken.old (row_ended taken.old) }
+    ensures kept { (puts : PutsView) → is_kept result.stage job.now.n job.now.parts.items (length result.queue) taken.new [] puts ≡ true }
+    ensures awake { is_settled result.stage ≡ true }
+{
+    let at = taken.before().len() + 1;
+    if at < job.parts.len() {
+        let part = job.parts[at];
+        taken.next_row(part);
+        Ahead {
+            stage: WriteStage::ClaimParity,
+            queue: parity_claim(job, part),
+        }
+    } else {
+        taken.next_row(RowPart::default());
+        Ahead {
+            stage: WriteStage::Confirm,
+            queue: row_confirm(job, &taken.before()[0]),
+        }
+    }
+}
+
+/// What follows the claims of the wanted units with their cells.
+#[tactic(auto, using(crate::proofs::ClaimLemmas::none_asked))]
+pub fn after_small(job: &Assignment, taken: &mut Taken) -> Ahead
+    requires row { length taken.old.before < array_vec_len job.now.parts }
+    requires rows { are_rows job.now.n (blocks_in job.now.parts.items) taken.old.before ≡ true }
+    requires this { is_row job.now.n (blocks_in job.now.parts.items) taken.old.row ≡ true }
+    requires others { length taken.old.row.others ≡ 0 }
+    ensures left { (blocks : List (List ℕ)) → (puts : PutsView) → left_of result.stage (access_of job.now blocks) taken.new [] puts result.queue ≡ small_claimed (access_of job.now blocks) (rest_of (access_of job.now blocks) taken.old) (Through taken.old) }
+    ensures kept { (puts : PutsView) → is_kept result.stage job.now.n job.now.parts.items (length result.queue) taken.new [] puts ≡ true }
+    ensures awake { is_settled result.stage ≡ true }
+{
+    if !lacks(taken.row().wanted()) {
+        return end_row(job, taken);
+    }
+    let queue = other_shares(job, taken.row().part());
+    if queue.len() > 0 {
+        Ahead {
+            stage: WriteStage::ShareAfter,
+            queue,
+        }
+    } else {
+        end_row(job, taken)
+    }
+}
