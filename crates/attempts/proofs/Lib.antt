@@ -6,3 +6,4 @@ pub mod RoomLemmas
 pub mod TakenLemmas
 pub mod ReadObeys
 pub mod WriteObeys
+pub mod PartLemmas

@@ -54,7 +54,7 @@ module _ (a : Access) (keep : Option Grant → Row → Row) (F : (Rows → Steps
       ap (λ xs. bind (run (sharing a keep) xs t') (F (rest_of a t'))) more
       ∙ ap (λ u. bind (run (sharing a keep) (drop 1 es) u) (F (rest_of a u))) kept
       ∙ ap (λ before. bind (run (sharing a keep) (drop 1 es) (with_grant keep t (first_errand es).bay (grant_of r))) (F (read_rows a (drop (length before + 1) a.parts))))
-        (before-kept keep t (first_errand es).bay (grant_of r))
+      (before-kept keep t (first_errand es).bay (grant_of r))
       ∙ sym (taking-some (behind_from a.mode a.id) keep es t (F (rest_of a t)) r some why)
 
   -- the reply is kept, and the walk is over
@@ -66,7 +66,7 @@ module _ (a : Access) (keep : Option Grant → Row → Row) (F : (Rows → Steps
       e
       ∙ ap (λ u. F (rest_of a u) (Through u)) kept
       ∙ ap (λ before. F (read_rows a (drop (length before + 1) a.parts)) (Through (with_grant keep t (first_errand es).bay (grant_of r))))
-        (before-kept keep t (first_errand es).bay (grant_of r))
+      (before-kept keep t (first_errand es).bay (grant_of r))
       ∙ sym (taking-last (behind_from a.mode a.id) keep es t (F (rest_of a t)) r one why)
 
 -- the first of the queue comes next

@@ -64,13 +64,15 @@ row-of n total rows i d h all = all-at (is_row n total) rows i d h (rows-all n t
 pub rows-push : (n total : ℕ) (rows : List Row) (row : Row) → length rows < 8 → are_rows n total rows ≡ true → is_row n total row ≡ true → are_rows n total (rows ++ row ∷ []) ≡ true
 rows-push n total rows row h all one =
     both (nat_le (length (rows ++ row ∷ [])) 8) (list_all (is_row n total) (rows ++ row ∷ [])) few each where
-  both : (a b : Bool) → a ≡ true → b ≡ true → (a && b) ≡ true
-  both true b e f = f
-  both false b e f = cc
-  few : nat_le (length (rows ++ row ∷ [])) 8 ≡ true
-  few = grind (arith, nat_tests, length_push rows row)
-  each : list_all (is_row n total) (rows ++ row ∷ []) ≡ true
-  each = list_all-append (is_row n total) rows (row ∷ []) ∙ both (list_all (is_row n total) rows) (list_all (is_row n total) (row ∷ [])) (rows-all n total rows all) (both (is_row n total row) true one refl)
+      both : (a b : Bool) → a ≡ true → b ≡ true → (a && b) ≡ true
+      both true b e f = f
+      both false b e f = cc
+
+      few : nat_le (length (rows ++ row ∷ [])) 8 ≡ true
+      few = grind (arith, nat_tests, length_push rows row)
+
+      each : list_all (is_row n total) (rows ++ row ∷ []) ≡ true
+      each = list_all-append (is_row n total) rows (row ∷ []) ∙ both (list_all (is_row n total) rows) (list_all (is_row n total) (row ∷ [])) (rows-all n total rows all) (both (is_row n total row) true one refl)
 
 pub ruleset parts = (part-most, part-some, part-at, rows-push, row-of)
 
