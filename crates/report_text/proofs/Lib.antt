@@ -3,3 +3,4 @@ pub mod BlockLines
 pub mod JobLookup
 pub mod OtherUnits
 pub mod RowLines
+pub mod ViewLemmas
