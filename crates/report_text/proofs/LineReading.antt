@@ -1,5 +1,5 @@
 -- What a text begins with, both ways.
-use Rattle.std.proofs.Common.{◌≡◌, ℕ, ◌<◌, ◌≤◌, ◌+◌, ◌-◌, ◌^◌, Bool, true, false, List, [], ◌∷◌, ◌++◌, take, drop, length, eqb, Option, Some, None, option_map, MatchOption, refl, sym, ap, ◌∙◌, arith, decimal}
+use Rattle.std.proofs.Common.{◌≡◌, ℕ, ◌<◌, ◌≤◌, ◌+◌, ◌-◌, ◌^◌, Bool, true, false, List, [], ◌∷◌, ◌++◌, take, drop, length, get_or, eqb, Option, Some, None, option_map, MatchOption, refl, sym, ap, ◌∙◌, arith, decimal}
 use Rattle.std.specs.Prelude.{◌↔◌}
 use Rattle.std.specs.Borrow.{Bor}
 use Rattle.std.specs.Cmp.Lexicographic.{pointwise}
@@ -8,7 +8,7 @@ use Rattle.text_lines.specs.Lines.{is_separator}
 use Rattle.std.specs.Prelude.{codes}
 use Rattle.raid_base.specs.declared.messages.Turn.{Turn}
 use Rattle.text_lines.proofs.LineLemmas.{line_is}
-use Rattle.report_text.specs.Report.{turn_line}
+use Rattle.report_text.specs.Report.{turn_line, row_line, row_word}
 use Rattle.report_text.specs.Reading.{IsRead}
 use Rattle.text_lines.proofs.WordLemmas.{behind_piece, other_piece, front_word, IsWord-decimal}
 
@@ -60,3 +60,29 @@ turn-read text host_on moment_on left rest host moment turn t h m hs ms l =
     t ∙ ap (λ x. codes "turn " ++ x) (h ∙ ap (λ x. decimal host ++ 32 ∷ x) m ∙ ap (λ x. decimal x ++ 32 ∷ (decimal moment ++ 10 ∷ left)) hs
     ∙ ap (λ x. decimal turn.host.0 ++ 32 ∷ (decimal x ++ 10 ∷ left)) ms ∙ ap (λ x. decimal turn.host.0 ++ 32 ∷ (decimal turn.moment ++ 10 ∷ x)) l)
     ∙ sym (turn-parts turn rest)
+
+-- the word of a row, where the text begins with "closed", with neither, and with "open"
+pub row-closed : (text left : List ℕ) (closed : Bool) (rest : List ℕ) → ((q : List ℕ) → (Some left ≡ Some q) ↔ (text ≡ codes "closed\n" ++ q))
+    → ((true ≡ closed) × (left ≡ rest)) ↔ (text ≡ row_word closed ++ 10 ∷ rest)
+row-closed text left true rest h = (λ p. (h rest).0 (ap (λ x. Some x) p.1), λ e. (refl, some-same left rest ((h rest).1 e)))
+row-closed text left false rest h = (
+  λ p. let no_case : true ≡ false = p.0 in cc,
+  λ e. let both : codes "closed\n" ++ left ≡ codes "open" ++ 10 ∷ rest = sym ((h left).0 refl) ∙ e in
+      let first : (let c : ℕ = 99 in c ≡ 111) = ap (λ (xs : List ℕ). get_or xs 0 0) both in absurd (omega arith),
+)
+
+pub row-neither : (text : List ℕ) (closed : Bool) (rest : List ℕ)
+    → ((q : List ℕ) → (let none : Option (List ℕ) = None in none ≡ Some q) ↔ (text ≡ codes "closed\n" ++ q)) → ((q : List ℕ) → (let none : Option (List ℕ) = None in none ≡ Some q) ↔ (text ≡ codes "open\n" ++ q))
+    → text ≡ row_word closed ++ 10 ∷ rest → ⊥
+row-neither text true rest h g e = none-some rest ((h rest).1 e)
+row-neither text false rest h g e = none-some rest ((g rest).1 e)
+
+pub row-open : (text left : List ℕ) (closed : Bool) (rest : List ℕ)
+    → ((q : List ℕ) → (let none : Option (List ℕ) = None in none ≡ Some q) ↔ (text ≡ codes "closed\n" ++ q)) → ((q : List ℕ) → (Some left ≡ Some q) ↔ (text ≡ codes "open\n" ++ q))
+    → ((false ≡ closed) × (left ≡ rest)) ↔ (text ≡ row_word closed ++ 10 ∷ rest)
+row-open text left true rest h g = (λ p. let no_case : false ≡ true = p.0 in cc, λ e. absurd (none-some rest ((h rest).1 e)))
+row-open text left false rest h g = (λ p. (g rest).0 (ap (λ x. Some x) p.1), λ e. (refl, some-same left rest ((g rest).1 e)))
+
+-- a row's line, of its parts
+pub row-parts : (row : ℕ) (closed : Bool) (rest : List ℕ) → row_line row closed ++ rest ≡ codes "row " ++ (decimal row ++ 32 ∷ (row_word closed ++ 10 ∷ rest))
+row-parts row closed rest = line_is (codes "row" ∷ decimal row ∷ row_word closed ∷ []) rest
