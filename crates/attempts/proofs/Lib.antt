@@ -7,3 +7,4 @@ pub mod TakenLemmas
 pub mod ReadObeys
 pub mod WriteObeys
 pub mod PartLemmas
+pub mod WholeLemmas

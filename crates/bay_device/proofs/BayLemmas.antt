@@ -1,5 +1,5 @@
 -- What a bay keeps from ask to ask, and what it shows.
-use Rattle.std.proofs.Common.{◌≡◌, ◌∙◌, ℕ, ◌+◌, ◌<◌, ◌≤◌, Result, Ok, Err, OnOk, is_err, Bool, true, false, if◌then◌else◌, List, [], ◌∷◌, ◌++◌, length, take, replicate, slice_index_or, Option, Some, None, is_some, is_none, refl, ap, sym, subst, arith}
+use Rattle.std.proofs.Common.{◌≡◌, ◌∙◌, ℕ, ◌+◌, ◌<◌, ◌≤◌, Result, Ok, Err, OnOk, is_err, Bool, true, false, if◌then◌else◌, List, [], ◌∷◌, ◌++◌, length, slice_index_or, Option, Some, None, is_some, is_none, refl, ap, sym, subst, arith}
 use Rattle.std.proofs.lemmas.List.{get_or_default}
 use Rattle.raid_base.specs.declared.cells.Cell.{Cell}
 use Rattle.raid_base.specs.declared.messages.Ask.{Ask}
@@ -10,11 +10,10 @@ use Rattle.raid_base.specs.Cells.{zeros}
 use Rattle.raid_base.specs.Counts.{HasCause}
 use Rattle.raid_base.specs.Fits.{fits}
 use Rattle.raid_base.specs.Replies.{is_fault}
-use Rattle.slot_rules.specs.declared.slot.SlotState.{SlotState}
-use Rattle.slot_rules.specs.Slots.{Slot, Bay}
+use Rattle.slot_rules.specs.Slots.{Bay}
 use Rattle.slot_rules.specs.Rules.{rule}
 use Rattle.slot_rules.specs.Replay.{Replays, next_clock}
-use Rattle.slot_rules.specs.Tables.{Table, with_block, slots_with, with_blocks, lost_of, bay_of}
+use Rattle.slot_rules.specs.Tables.{Table, with_blocks, lost_of}
 use Rattle.slot_rules.proofs.RuleLaws.{replies_fit_lem}
 use Rattle.slot_rules.proofs.Handlings.{cell-there}
 use Rattle.bay_device.proofs.KeepLemmas.{rule_keeps}
@@ -66,18 +65,6 @@ look-shows table blocks row bytes lost l le some b m =
     ap (λ (x : List ℕ). Some (record { bytes = x; lost = lost })) e
     ∙ ap (λ (x : ℕ). Some (record { bytes = slice_index_or blocks row.0 []; lost = x })) m
     ∙ sym (cell-there table blocks row l (cell_some (cell_of_row (with_blocks table blocks) row) some))
-
--- a bay shows no more blocks than it has rows
-pub slots-take : (slots : List SlotState) (blocks : List (List ℕ)) → slots_with slots (take (length slots) blocks) ≡ slots_with slots blocks
-slots-take [] blocks = refl
-slots-take (s ∷ slots) [] = refl
-slots-take (s ∷ slots) (b ∷ blocks) = ap (λ t. with_block s b ∷ t) (slots-take slots blocks)
-
-pub first-told : (table : Table) (blocks : List (List ℕ)) (rows : ℕ) (first : Bay) → length table.slots ≡ rows → take rows blocks ≡ replicate rows zeros
-    → with_blocks table (replicate rows zeros) ≡ first → with_blocks table blocks ≡ first
-first-told table blocks rows first l t e =
-    ap (λ (ss : List Slot). bay_of table.state ss)
-    (sym (slots-take table.slots blocks) ∙ ap (λ (n : ℕ). slots_with table.slots (take n blocks)) l ∙ ap (λ (bs : List (List ℕ)). slots_with table.slots bs) t) ∙ e
 
 -- what holds where a result is no error
 pub on-ok : {T E : Type 0} (result : Result T E) (P : Type 0) → is_err result ≡ false → OnOk result P → P

@@ -6,5 +6,7 @@
 
 pub mod bay;
 mod serve;
+#[cfg(test)]
+mod tests;
 
 pub use bay::{Bay, BayFault};

@@ -10,22 +10,7 @@ ghost use Rattle.raid_base.specs.declared.numbers.Number.{Number};
 
 use block_store::Store;
 use raid_base::{Ask, Cell, Reply, Request, RowNo};
-use slot_rules::{Slots, Verdict};
-
-/// The row of a request.
-pub(crate) fn row_of(what: &Request) -> Option<RowNo>
-    ensures { result ≡ row_of what.now }
-{
-    match *what {
-        Request::Share { row, .. } => Some(row),
-        Request::Claim { row, .. } => Some(row),
-        Request::Confirm { row, .. } => Some(row),
-        Request::Put { row, .. } => Some(row),
-        Request::Release { row, .. } => Some(row),
-        Request::Lose => None,
-        Request::Fit => None,
-    }
-}
+use slot_rules::{Slots, Verdict, row_of};
 
 /// Answers an ask that shows the block of this row.
 fn serve_read<D: Store>(slots: &mut Slots, store: &mut D, row: RowNo, ask: &Ask) -> Reply
@@ -91,7 +76,7 @@ pub fn serve<D: Store>(slots: &mut Slots, store: &mut D, ask: &Ask) -> Reply
 {
     match slots.judge(ask) {
         Verdict::Say(_) => slots.apply(ask, None),
-        Verdict::NeedRead => match row_of(&ask.what) {
+        Verdict::NeedRead => match row_of(ask.what) {
             Some(row) => serve_read(slots, store, row, ask),
             None => unreachable!(),
         },

@@ -60,7 +60,7 @@ impl Model for Slots {
 }
 
 impl Slots {
-    ghost use Rattle.std.specs.Prelude.{◌≡◌, ◌≤◌, ◌<◌, ◌-◌, ◌^◌, ℕ, List, IfOk, IfSome, length, replicate, true, false, is_none};
+    ghost use Rattle.std.specs.Prelude.{◌≡◌, ◌≤◌, ◌<◌, ◌-◌, ◌^◌, ℕ, List, IfOk, IfSome, length, replicate, take, true, false, is_none};
     ghost use Rattle.raid_base.specs.Cells.{zeros};
     ghost use Rattle.raid_base.specs.Fits.{fits};
     ghost use Rattle.slot_rules.specs.Slots.{first_bay, slot_of};
@@ -69,9 +69,9 @@ impl Slots {
     ghost use Rattle.slot_rules.specs.Serving.{IsAskFor, IsVerdict, verdict_of, served_cell, blocks_after, row_of};
     ghost use Rattle.slot_rules.specs.Parts.{ServedRow, table_lost, table_fitted, device_reply, device_after};
 
-    /// The slots at the start, over blocks of zeros: none is blank, and all numbers are 0. All memory is taken here.
+    /// The slots at the start, over a store whose first blocks are zeros: none is blank, and all numbers are 0. All memory is taken here.
     pub fn make(alloc: Global, mode: Mode, rows: u16, patience: u64) -> Result<Slots, NoMemory>
-        ensures first { IfOk result (λ slots. with_blocks slots (replicate rows zeros) ≡ first_bay mode rows patience) }
+        ensures first { IfOk result (λ slots. (blocks : List (List ℕ)) → take rows blocks ≡ replicate rows zeros → with_blocks slots blocks ≡ first_bay mode rows patience) }
         ensures rows { IfOk result (λ slots. length slots.slots ≡ rows) }
     {
         let mut slots = Vec::with_capacity(alloc, usize::from(rows)).map_err(|_| NoMemory)?;

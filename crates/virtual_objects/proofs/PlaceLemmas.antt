@@ -1,9 +1,11 @@
 -- Each data unit of the rows that are held is the place of just one block.
-use Rattle.std.proofs.Common.{◌≡◌, ◌∙◌, sym, ap, refl, ℕ, zero, suc, ◌+◌, ◌-◌, ◌*◌, ◌/◌, ◌%◌, ◌<◌, inl, inr, arith, eqb, Bool, true, false, cond, List, [], ◌∷◌, ◌++◌, Option, Some, None, slice_get, find, option_map}
+use Rattle.std.proofs.Common.{◌≡◌, ◌∙◌, sym, ap, refl, ℕ, zero, suc, ◌+◌, ◌-◌, ◌*◌, ◌/◌, ◌%◌, ◌<◌, ◌≤◌, inl, inr, arith, eqb, Bool, true, false, cond, List, [], ◌∷◌, ◌++◌, Option, Some, None, slice_get, find, option_map, All, Result, Ok, IfOk}
+use Rattle.std.specs.Result.{result_map_both}
+use Rattle.raid_base.specs.declared.jobs.PartsFault.{PartsFault}
 use Rattle.std.specs.List.{IsDistinct, AllByRecursion, list_any}
 use Rattle.std.proofs.lemmas.Option.{some_pair_parts}
 use Rattle.std.proofs.lemmas.Map.Steps.{list_any_congr}
-use Rattle.virtual_objects.proofs.JobLemmas.{object_distinct}
+use Rattle.virtual_objects.proofs.JobLemmas.{object_distinct, are_parts, if_granted}
 use Rattle.virtual_objects.proofs.PartLemmas.{placed_at}
 use Rattle.std.specs.Cmp.Lexicographic.{nat_list_eq_equiv}
 use Rattle.std.proofs.lemmas.Bool.{eq-eqb, eqb-true, or_cases, or_left, or_right, or_from, cases_Bool, false_from_ne_true, false≢true}
@@ -12,8 +14,10 @@ use Rattle.std.proofs.lemmas.Nat.{div-add-mod', mod_below}
 use Rattle.raid_base.specs.declared.names.Name.{Name}
 use Rattle.raid_base.specs.declared.numbers.RowNo.{RowNo}
 use Rattle.raid_base.specs.Names.{is_text}
-use Rattle.virtual_objects.specs.Objects.{Object, Address, rows_of, placed_in, place_in, place}
+use Rattle.virtual_objects.specs.Objects.{Object, Address, rows_of, placed_in, place_in, place, parts_in}
 use Rattle.virtual_objects.specs.Table.{ObjectTable, AreObjects, names, numbers, held, is_held}
+use Rattle.raid_base.specs.declared.jobs.RowPart.{RowPart}
+use Rattle.virtual_objects.specs.RowParts.{ArePartsOf}
 use Rattle.virtual_objects.specs.Places.{StandsOn, AreOne, ArePlaces}
 use Rattle.virtual_objects.proofs.HeldLemmas.{held-append}
 
@@ -209,3 +213,23 @@ are_places table are =
       apart = λ a b row unit ea eb. are_one table.n table.objects a b row unit are.rows_apart (stood table.n table.objects a row unit ea) (stood table.n table.objects b row unit eb);
       filled = λ row unit e h. fills table row unit h (find-row table.objects row.0 are.names_apart e);
     }
+
+-- the rows of a job's parts are rows of the array
+pub parts_below : (table : ObjectTable) (name : Name) (first count : ℕ) (parts : List RowPart) → AreObjects table → ArePartsOf table.n table.objects name first count parts
+    → All (λ (part : RowPart). part.row.0 < table.rows) parts
+parts_below table name first count parts are ps = λ k d h.
+    (let some = (ps.sound.each k d h).some in
+    let at = stood table.n table.objects _ _ _ (ps.placed k d h 0 (omega arith)) in
+    are.rows_below _ (found-row table.objects name at.rows _ _ at.found at.at))
+
+-- what holds of the parts that a call grants
+pub granted_sound : {V : Type 0} (items : V → List RowPart) (r : Result V PartsFault) (table : ObjectTable) (name : Name) (rows : List RowNo) (first count units : ℕ)
+    → AreObjects table → 1 ≤ count → units ≡ table.n - 1 → rows_of table.objects name ≡ Some rows → result_map_both items (λ fault. fault) r ≡ parts_in units first count rows
+    → IfOk r (λ v. ArePartsOf table.n table.objects name first count (items v)) × IfOk r (λ v. All (λ (part : RowPart). part.row.0 < table.rows) (items v))
+granted_sound items r table name rows first count units are some same found e =
+    let least = are.devices_least in
+    let sound = λ (ps : List RowPart) (ok : parts_in units first count rows ≡ Ok ps).
+    are_parts table.n first count table.objects name rows ps (omega arith) some found are.rows_apart (ap (λ (d : ℕ). parts_in d first count rows) (sym same) ∙ ok) in (
+      if_granted items r (parts_in units first count rows) e (ArePartsOf table.n table.objects name first count) sound,
+      if_granted items r (parts_in units first count rows) e (All (λ (part : RowPart). part.row.0 < table.rows)) (λ ps ok. parts_below table name first count ps are (sound ps ok)),
+    )

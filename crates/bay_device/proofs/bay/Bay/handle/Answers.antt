@@ -1,4 +1,4 @@
-use Rattle.std.proofs.Common.{◌≤◌, ◌<◌, ◌+◌, ℕ, vec_len, ap, arith}
+use Rattle.std.proofs.Common.{◌≤◌, ◌<◌, ◌+◌, ℕ, vec_len, is_ok, ap, arith}
 use Rattle.std.specs.Vec.{vec_capacity}
 use Rattle.bay_device.proofs.BayLemmas.{lives-more, somehow-fits, somehow-life, pushed-replays, pushed-faults}
 use Rattle.bay_device.proofs.bay.Bay.handle.Goals as goal
@@ -8,7 +8,7 @@ invariant_of-self-clause-lives g c =
     let more : c.serve-reply.new.slots.state.life ≤ c.args.self.now.slots.state.life + 1 =
     somehow-life c.args.ask.now c.serve-reply.result c.args.self.now.slots c.serve-reply.new.slots c.serve-reply.ensures.somehow in
     let room : vec_len c.args.self.now.journal < vec_capacity c.args.self.now.journal = omega (arith, c.requires.room, c.args.self.now.reserved) in
-    lives-more _ _ _ _ _ more c.args.self.now.lives c.push.ensures.len (c.push.ensures.succeeds room)
+    lives-more c.args.self.now.slots.state.life c.serve-reply.new.slots.state.life (vec_len c.args.self.now.journal) (vec_len c.push.new.self) (is_ok c.push.result) more c.args.self.now.lives c.push.ensures.len (c.push.ensures.succeeds room)
 
 pub returns-clause-fits : goal.returns-clause-fits
 returns-clause-fits g c = somehow-fits c.args.ask.now c.serve-reply.result c.args.self.now.slots c.serve-reply.new.slots c.serve-reply.ensures.somehow

@@ -1,0 +1,228 @@
+//! Rebuilds of row 5 of four bays: its parity is on bay 2, and its units 0, 1 and 2 on bays 3, 0 and 1.
+ghost use Rattle.std.specs.Prelude.{◌<◌};
+
+use crate::MendTry;
+use place_numbers::Numbers;
+use raid_base::{
+    BayNo, Cause, Cell, Ended, HostNo, How, NUMBERS_END, Note, Number, Reply, Request, RowNo,
+};
+use std::process::Abort;
+
+/// A request to a bay, and the reply. None where a case has no such step.
+type Step = Option<(u8, Request, Reply)>;
+
+const ROW: RowNo = RowNo(5);
+
+const ID: Number = Number(17);
+
+const NOTE: Note = Note {
+    host: HostNo(2),
+    id: Number(34),
+    origin: Number(34),
+    mask: 0,
+    moment: 0,
+};
+
+fn cell(byte: u8, lost: u16) -> Cell {
+    Cell {
+        bytes: [byte; 64],
+        lost,
+    }
+}
+
+fn granted(cell: Option<Cell>, write_no: u64) -> Reply {
+    Reply::Granted {
+        cell,
+        read_no: Number(0),
+        write_no: Number(write_no),
+        last: Number(0),
+        life: 0,
+        seized: None,
+    }
+}
+
+/// A claim that shows a cell of these bytes.
+fn shown(bay: u8, byte: u8) -> Step {
+    claim(bay, granted(Some(cell(byte, 0)), 40))
+}
+
+fn claim(bay: u8, reply: Reply) -> Step {
+    let request = Request::Claim {
+        row: ROW,
+        id: ID,
+        how: How::Mend,
+        mask: 0,
+        want: true,
+    };
+    Some((bay, request, reply))
+}
+
+fn confirm(reply: Reply) -> Step {
+    let request = Request::Confirm {
+        row: ROW,
+        id: ID,
+        want: false,
+    };
+    Some((2, request, reply))
+}
+
+fn put(bay: u8, cell: Cell, reply: Reply) -> Step {
+    let request = Request::Put {
+        row: ROW,
+        id: ID,
+        number: Number(49),
+        cell,
+    };
+    Some((bay, request, reply))
+}
+
+/// A release, whose reply doesn't matter.
+fn release(bay: u8) -> Step {
+    let request = Request::Release {
+        row: ROW,
+        id: ID,
+        number: None,
+    };
+    Some((bay, request, Reply::NoNote { life: 1 }))
+}
+
+/// Rebuilds the row on the target with these replies, and compares the requests and the end.
+fn rebuilds(rt: &impl Abort, target: u8, steps: &[Step], ended: Ended)
+    requires { target < 4 }
+{
+    let mut numbers = Numbers::new(HostNo(1));
+    numbers.see(ID);
+    let mut rebuild = MendTry::begin(4, ID, ROW, BayNo(target));
+    for step in steps {
+        let Some((bay, request, reply)) = *step else {
+            continue;
+        };
+        let next = rebuild.next(&[]);
+        assert_eq!(rt; next, Some((BayNo(bay), request)));
+        assert_eq!(rt; rebuild.end(), None);
+        if next.is_some() {
+            assert_eq!(rt; rebuild.quit(), Ended::Refused(Cause::Quit));
+            rebuild.take(&[], &reply, &mut numbers);
+        }
+    }
+    assert_eq!(rt; rebuild.next(&[]), None);
+    assert_eq!(rt; rebuild.end(), Some(ended));
+}
+
+const HELD: Reply = Reply::Held { cell: None };
+
+#[test]
+fn puts_what_the_others_make_of_the_cell(rt: HostRuntime) {
+    let blank = granted(None, 12);
+    let unit = [
+        shown(2, 7),
+        shown(3, 1),
+        claim(0, blank),
+        shown(1, 4),
+        confirm(HELD),
+        put(0, cell(2, 0), Reply::Done),
+        release(3),
+        release(1),
+        release(2),
+    ];
+    rebuilds(&rt, 0, &unit, Ended::Mended);
+    let lost_unit = [
+        claim(2, granted(Some(cell(5, 2)), 40)),
+        shown(3, 1),
+        claim(0, blank),
+        shown(1, 4),
+        confirm(HELD),
+        put(0, cell(0, 2), Reply::Done),
+        release(3),
+        release(1),
+        release(2),
+    ];
+    rebuilds(&rt, 0, &lost_unit, Ended::Mended);
+    let parity = [
+        claim(2, blank),
+        shown(3, 1),
+        claim(0, granted(Some(cell(0, 2)), 40)),
+        shown(1, 4),
+        confirm(HELD),
+        put(2, cell(5, 2), Reply::Done),
+        release(3),
+        release(0),
+        release(1),
+    ];
+    rebuilds(&rt, 2, &parity, Ended::Mended);
+    let shows_a_cell = [
+        shown(2, 7),
+        shown(3, 1),
+        shown(0, 2),
+        shown(1, 4),
+        confirm(HELD),
+        release(3),
+        release(0),
+        release(1),
+        release(2),
+    ];
+    rebuilds(&rt, 0, &shows_a_cell, Ended::Mended);
+}
+
+#[test]
+fn refusals_give_back_what_is_held(rt: HostRuntime) {
+    let gone = |bay| Ended::Refused(Cause::Gone { bay: BayNo(bay) });
+    let bare = [
+        shown(2, 7),
+        claim(3, granted(None, 0)),
+        release(3),
+        release(2),
+    ];
+    rebuilds(&rt, 0, &bare, gone(3));
+    let missing = [claim(2, Reply::Missing { floor: Number(9) })];
+    rebuilds(&rt, 2, &missing, gone(2));
+    let busy = [
+        shown(2, 7),
+        shown(3, 1),
+        shown(0, 2),
+        claim(1, Reply::Busy { holder: NOTE }),
+        release(3),
+        release(0),
+        release(2),
+    ];
+    rebuilds(&rt, 0, &busy, Ended::Refused(Cause::Busy { holder: NOTE }));
+}
+
+/// The steps of a rebuild that is refused after its claims, at the confirm or at the put.
+fn refused(last_write: u64, confirmed: Step, done: Step) -> [Step; 10] {
+    [
+        claim(2, granted(Some(cell(7, 0)), last_write)),
+        shown(3, 1),
+        claim(0, granted(None, 0)),
+        shown(1, 4),
+        confirmed,
+        done,
+        release(3),
+        release(0),
+        release(1),
+        release(2),
+    ]
+}
+
+#[test]
+fn refusals_after_the_claims_give_all_back(rt: HostRuntime) {
+    let changed = Cause::Changed { row: ROW };
+    let seized = Cause::Seized { row: ROW };
+    let spent = Cause::Spent {
+        seen: Number(NUMBERS_END - 1),
+    };
+    let fault = |bay| Cause::Fault { bay: BayNo(bay) };
+    let no_note = Reply::NoNote { life: 0 };
+    let not_noted = put(0, cell(2, 0), no_note);
+    let failed = put(0, cell(2, 0), Reply::Fault);
+    let cases = [
+        (refused(40, confirm(no_note), None), changed),
+        (refused(40, confirm(Reply::Fault), None), fault(2)),
+        (refused(NUMBERS_END - 1, confirm(HELD), None), spent),
+        (refused(40, confirm(HELD), not_noted), seized),
+        (refused(40, confirm(HELD), failed), fault(0)),
+    ];
+    for (steps, cause) in cases {
+        rebuilds(&rt, 0, &steps, Ended::Refused(cause));
+    }
+}
