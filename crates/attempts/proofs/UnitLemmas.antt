@@ -1,5 +1,5 @@
 -- Units that are passed by one.
-use Rattle.std.proofs.Common.{min, is_some, append_assoc, length-drop, ◌≡◌, ℕ, ◌+◌, ◌<◌, ◌≤◌, Bool, cond, List, [], ◌∷◌, ◌++◌, Option, Some, None, length, get_or, drop, zip, refl, ap, sym, ◌∙◌, subst, arith}
+use Rattle.std.proofs.Common.{min, is_some, append_assoc, length-drop, ◌≡◌, ℕ, ◌+◌, ◌<◌, ◌≤◌, Bool, cond, List, [], ◌∷◌, ◌++◌, Option, Some, None, length, get_or, drop, zip, refl, ap, sym, ◌∙◌, arith}
 use Rattle.std.specs.List.{All, range_with_len, filter}
 use Rattle.std.proofs.lemmas.List.{map-id, at_drop_more, nil_from_length}
 use Rattle.std.proofs.lemmas.Slice.Zip.{length-zip}

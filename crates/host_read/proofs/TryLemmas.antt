@@ -1,5 +1,5 @@
 -- What a reply leaves of a read.
-use Rattle.std.proofs.Common.{◌==◌, ◌&&◌, nat_lt, nat_le, if◌then◌else◌, IsTrue, ◌≡◌, ◌<◌, ◌+◌, ◌↔◌, ℕ, List, [], ◌∷◌, ◌++◌, Bool, true, false, Option, Some, None, IsSome, slice_get, length, drop, refl, ap, sym, ◌∙◌, arith}
+use Rattle.std.proofs.Common.{◌==◌, ◌&&◌, nat_lt, nat_le, if◌then◌else◌, IsTrue, ◌≡◌, ◌<◌, ◌+◌, ℕ, List, [], ◌∷◌, ◌++◌, Bool, true, false, Option, Some, None, IsSome, slice_get, length, drop, refl, ap, sym, ◌∙◌, arith}
 use Rattle.raid_base.specs.declared.numbers.HostNo.{HostNo}
 use Rattle.raid_base.specs.declared.numbers.Number.{Number}
 use Rattle.raid_base.specs.declared.jobs.Cause.{Cause}
@@ -10,7 +10,7 @@ use Rattle.raid_base.specs.declared.messages.Errand.{Errand}
 use Rattle.raid_base.specs.declared.messages.Grant.{Grant}
 use Rattle.raid_base.specs.Replies.{grant_of}
 use Rattle.raid_base.specs.First.{first_errand}
-use Rattle.raid_base.specs.Steps.{Steps, Standing, next_errand, answer, stopped, draws, settled, behind, bind, Walk, Through, Stopped, run}
+use Rattle.raid_base.specs.Steps.{Steps, next_errand, answer, stopped, draws, settled, behind, bind, Walk, Through, Stopped, run}
 use Rattle.raid_base.proofs.DrawLemmas.{settled-asks}
 use Rattle.attempts.specs.Taking.{Access, Finish, Row, Rows, Taken, behind_from, refusal, with_grant}
 use Rattle.attempts.specs.Releases.{refused_steps, read_releases}

@@ -254,3 +254,46 @@ fn gone_row(gone: Option<RowNo>, request: &Request, reply: &Reply) -> Option<Row
         },
     }
 }
+
+#[cfg(test)]
+mod tests {
+    use super::*;
+    use raid_base::{Cell, HostNo, RowPart};
+
+    fn granted(bytes: [u8; 64]) -> Reply {
+        Reply::Granted {
+            cell: Some(Cell { bytes, lost: 0 }),
+            read_no: Number(0),
+            write_no: Number(0),
+            last: Number(0),
+            life: 0,
+            seized: None,
+        }
+    }
+
+    fn one_unit() -> RowParts
+        ensures { AreRowParts 3 result.items }
+    {
+        let mut parts = ArrayVec::new();
+        parts.push(RowPart {
+            row: RowNo(0),
+            mask: 1,
+            at: 0,
+            count: 1,
+        });
+        parts
+    }
+
+    #[test]
+    fn reads_one_unit_under_stamps(rt: HostRuntime) {
+        let mut numbers = Numbers::new(HostNo(1));
+        let mut read = ReadTry::begin(Mode::Order, 3, Number(17), one_unit());
+        assert_eq!(rt; read.next(&[]).map(|(bay, _)| bay), Some(BayNo(0)));
+        if read.next(&[]).is_some() {
+            read.take(&[], &granted([7; 64]), &mut numbers);
+        }
+        assert_eq!(rt; read.next(&[]), None);
+        assert_eq!(rt; read.end(), Some(Ended::Read { number: Number(17) }));
+        assert_eq!(rt; read.contents(), [Content::Bytes([7; 64])].as_slice());
+    }
+}

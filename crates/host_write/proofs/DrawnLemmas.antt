@@ -5,7 +5,7 @@ use Rattle.raid_base.specs.declared.numbers.Number.{Number}
 use Rattle.raid_base.specs.declared.jobs.RowPart.{RowPart}
 use Rattle.raid_base.specs.declared.jobs.Cause.{Cause}
 use Rattle.raid_base.specs.declared.messages.Errand.{Errand}
-use Rattle.raid_base.specs.Steps.{Steps, Standing, draws, settled}
+use Rattle.raid_base.specs.Steps.{Steps, draws, settled}
 use Rattle.raid_base.proofs.DrawLemmas.{settled-asks, settled-draws}
 use Rattle.attempts.specs.Taking.{Access, Finish as Outcome, Row, Taken}
 use Rattle.attempts.specs.Puts.{Puts}

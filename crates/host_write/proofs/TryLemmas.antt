@@ -1,5 +1,5 @@
 -- What a reply leaves of a write.
-use Rattle.std.proofs.Common.{◌==◌, ◌&&◌, nat_lt, nat_le, if◌then◌else◌, IsTrue, ◌≡◌, ◌<◌, ◌+◌, ℕ, List, [], ◌∷◌, ◌++◌, Bool, true, false, Option, Some, None, IsSome, slice_get, option_map, unwrap_or, length, drop, refl, ap, sym, ◌∙◌, arith}
+use Rattle.std.proofs.Common.{◌==◌, ◌&&◌, if◌then◌else◌, IsTrue, ◌≡◌, ◌<◌, ◌+◌, ℕ, List, [], ◌∷◌, ◌++◌, Bool, true, false, Option, Some, None, IsSome, slice_get, option_map, length, drop, refl, ap, sym, ◌∙◌, arith}
 use Rattle.std.proofs.lemmas.Bool.Decides.{nat_tests}
 use Rattle.std.proofs.lemmas.List.{length_push}
 use Rattle.raid_base.specs.declared.numbers.Number.{Number}
@@ -14,7 +14,7 @@ use Rattle.raid_base.specs.declared.messages.Grant.{Grant}
 use Rattle.raid_base.specs.declared.messages.PutEnd.{PutEnd}
 use Rattle.raid_base.specs.Replies.{grant_of, put_end}
 use Rattle.raid_base.specs.First.{first_errand}
-use Rattle.raid_base.specs.Steps.{Steps, next_errand, answer, stopped, behind, bind, Walk, Through, Stopped, run}
+use Rattle.raid_base.specs.Steps.{Steps, next_errand, answer, stopped, behind, bind, Walk, Through, run}
 use Rattle.raid_base.proofs.RunLemmas.{behind-run-some, behind-run-last, behind-run-none}
 use Rattle.attempts.specs.Parts.{are_parts}
 use Rattle.attempts.specs.Taking.{Access, Finish as Outcome, Row, Rows, Taken, behind_from, refusal, with_grant}

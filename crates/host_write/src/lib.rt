@@ -13,3 +13,6 @@ pub mod troubles;
 pub mod write_try;
 
 pub use write_try::WriteTry;
+
+#[cfg(test)]
+mod tests;

@@ -1,4 +1,4 @@
-use Rattle.std.proofs.Common.{◌≡◌, length, ap, sym, ◌∙◌}
+use Rattle.std.proofs.Common.{ap, sym, ◌∙◌}
 use Rattle.raid_base.specs.Numbers.{draw, seen_drawn}
 use Rattle.raid_base.specs.Steps.{settled}
 use Rattle.attempts.specs.Accesses.{access_of}

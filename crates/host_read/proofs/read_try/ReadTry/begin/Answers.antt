@@ -1,8 +1,7 @@
-use Rattle.std.proofs.Common.{◌≡◌, [], length, get_or, refl, ap, arith}
+use Rattle.std.proofs.Common.{[], get_or, refl, ap}
 use Rattle.raid_base.specs.declared.jobs.RowPart.{RowPart}
 use Rattle.attempts.specs.Taking.{Access, no_rows}
 use Rattle.host_read.proofs.ReadLemmas.{row_begins}
-use Rattle.host_read.proofs.TryLemmas.{some-parts}
 use Rattle.host_read.proofs.read_try.ReadTry.begin.Goals as goal
 
 pub returns : goal.returns

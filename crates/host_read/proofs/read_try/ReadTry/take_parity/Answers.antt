@@ -1,16 +1,15 @@
-use Rattle.std.proofs.Common.{◌≡◌, ◌<◌, [], true, None, Some, length, length-drop, drop, refl, ap, sym, ◌∙◌, arith}
+use Rattle.std.proofs.Common.{◌≡◌, ◌<◌, [], true, None, Some, length, refl, ap, sym, ◌∙◌, arith}
 use Rattle.raid_base.specs.First.{first_errand}
 use Rattle.raid_base.specs.Replies.{grant_of}
-use Rattle.raid_base.specs.Steps.{behind, draws, settled}
-use Rattle.raid_base.proofs.DrawLemmas.{draws-run}
+use Rattle.raid_base.specs.Steps.{behind, settled}
 use Rattle.attempts.specs.Accesses.{access_of}
 use Rattle.attempts.specs.Taking.{behind_from, refusal, with_grant, with_parity}
-use Rattle.attempts.specs.Reading.{sharing, parity_shared}
+use Rattle.attempts.specs.Reading.{parity_shared}
 use Rattle.host_read.specs.declared.stages.ReadStage.TheVariants.{Parity}
 use Rattle.host_read.specs.Stages.{is_kept}
 use Rattle.host_read.specs.Left.{left_of, rest_of}
 use Rattle.host_read.proofs.ReadLemmas.{draws-left}
-use Rattle.host_read.proofs.TryLemmas.{stands, stop-left, on-left, last-left, one-parity}
+use Rattle.host_read.proofs.TryLemmas.{stands, stop-left, last-left, one-parity}
 use Rattle.host_read.proofs.read_try.ReadTry.take_parity.Goals as goal
 
 pub returns-in-Some-clause-told : goal.returns-in-Some-clause-told

@@ -1,12 +1,7 @@
-use Rattle.std.proofs.Common.{◌≡◌, ◌-◌, ◌≤◌, [], length, get_or, refl, ap, ◌∙◌, arith}
+use Rattle.std.proofs.Common.{get_or, refl, ap}
 use Rattle.raid_base.specs.declared.jobs.RowPart.{RowPart}
-use Rattle.attempts.specs.Parts.{blocks_in, is_part}
 use Rattle.attempts.specs.Taking.{Access, no_rows}
-use Rattle.attempts.specs.Writing.{claim_rows}
-use Rattle.host_write.specs.Left.{left_of}
-use Rattle.host_write.specs.declared.stages.WriteStage.TheVariants.{ClaimParity}
 use Rattle.host_write.proofs.ClaimLemmas.{row_begins}
-use Rattle.host_write.proofs.TryLemmas.{some-parts}
 use Rattle.host_write.proofs.write_try.WriteTry.begin.Goals as goal
 
 pub returns-clause-left : goal.returns-clause-left

@@ -1,8 +1,5 @@
-use Rattle.std.proofs.Common.{◌≡◌, ◌<◌, Some, length, ap, sym, ◌∙◌}
-use Rattle.raid_base.specs.declared.jobs.Ended.TheVariants.{Refused}
-use Rattle.raid_base.specs.declared.jobs.Cause.TheVariants.{Quit}
+use Rattle.std.proofs.Common.{◌<◌, Some, length, ap, sym, ◌∙◌}
 use Rattle.attempts.specs.Accesses.{access_of}
-use Rattle.host_write.specs.Tries.{left}
 use Rattle.host_write.proofs.TryLemmas.{has-errand, quits-left, stop_of}
 use Rattle.host_write.proofs.write_try.WriteTry.quit.Goals as goal
 

@@ -1,10 +1,8 @@
-use Rattle.std.proofs.Common.{◌≡◌, ◌<◌, length, ap, sym, ◌∙◌}
-use Rattle.raid_base.specs.declared.jobs.Ended.TheVariants.{Refused}
+use Rattle.std.proofs.Common.{◌<◌, length, ap, sym, ◌∙◌}
 use Rattle.raid_base.specs.Steps.{behind, draws, settled}
 use Rattle.attempts.specs.Accesses.{access_of}
 use Rattle.host_write.specs.Left.{left_of}
 use Rattle.host_write.specs.Tries.{left}
-use Rattle.host_write.specs.declared.stages.WriteStage.TheVariants.{Finish, Release}
 use Rattle.host_write.proofs.DrawnLemmas.{stands, draws-left, draws-finished, draws-released}
 use Rattle.host_write.proofs.TryLemmas.{released-left, finished-left, has-errand}
 use Rattle.host_write.proofs.write_try.WriteTry.take.Goals as goal

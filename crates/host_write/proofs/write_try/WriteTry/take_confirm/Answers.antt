@@ -1,4 +1,4 @@
-use Rattle.std.proofs.Common.{◌≡◌, ◌<◌, ◌∷◌, [], ◌++◌, List, true, None, Some, length, get_or, ap, sym, ◌∙◌, arith, unwrap_or}
+use Rattle.std.proofs.Common.{◌≡◌, ◌<◌, List, true, None, Some, length, ap, sym, ◌∙◌, arith}
 use Rattle.std.proofs.lemmas.List.{get_or_read}
 use Rattle.raid_base.specs.First.{first_errand}
 use Rattle.raid_base.specs.Steps.{Standing, behind, settled}

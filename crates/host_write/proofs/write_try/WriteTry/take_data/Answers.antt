@@ -1,11 +1,11 @@
-use Rattle.std.proofs.Common.{◌≡◌, ◌<◌, true, false, Some, None, if◌then◌else◌, length, ap, sym, ◌∙◌, arith}
+use Rattle.std.proofs.Common.{◌≡◌, ◌<◌, true, if◌then◌else◌, length, ap, sym, ◌∙◌, arith}
 use Rattle.std.proofs.lemmas.List.{get_or_read}
 use Rattle.raid_base.specs.declared.messages.Errand.{Errand}
 use Rattle.raid_base.specs.First.{first_errand}
 use Rattle.raid_base.specs.Replies.{is_fault, put_end}
 use Rattle.raid_base.specs.Steps.{behind, Through}
 use Rattle.attempts.specs.Accesses.{access_of}
-use Rattle.attempts.specs.Puts.{Faulted, Robbed, with_trouble, trouble_of, unit_of, data_put_by, parity_put_by}
+use Rattle.attempts.specs.Puts.{Faulted, Robbed, with_trouble, trouble_of, unit_of}
 use Rattle.attempts.specs.Writing.{data_done}
 use Rattle.host_write.specs.declared.stages.WriteStage.TheVariants.{PutData}
 use Rattle.host_write.specs.Stages.{is_kept}
