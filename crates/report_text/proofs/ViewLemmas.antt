@@ -1,5 +1,5 @@
 -- What a report takes from a finished array: its contents one after another, its cells row by row, and its open rows.
-use Rattle.std.proofs.Common.{◌≡◌, ℕ, zero, suc, ◌<◌, ◌≤◌, ◌+◌, ◌-◌, ◌%◌, Bool, false, not, List, [], ◌∷◌, ◌++◌, map, take, drop, get_or, length, Option, refl, sym, ap, ◌∙◌, arith}
+use Rattle.std.proofs.Common.{◌≡◌, ℕ, ◌<◌, ◌≤◌, ◌+◌, ◌-◌, Bool, false, not, List, [], ◌∷◌, ◌++◌, map, take, drop, get_or, length, Option, refl, sym, ap, ◌∙◌, arith}
 use Rattle.std.proofs.Math.Seq.{take-append_seam, drop-append_seam}
 use Rattle.std.proofs.lemmas.List.FromFn.{fill_by_all}
 use Rattle.virtual_objects.proofs.PartLemmas.{map-range_same}

@@ -1,11 +1,12 @@
 //! Lines of a report, read from a text that begins with them.
-ghost use Rattle.std.specs.Prelude.{◌≡◌, ◌↔◌, ◌-◌, ◌^◌, ◌<◌, ◌≤◌, ◌++◌, ◌∷◌, Bool, true, ℕ, List, Some, option_map, decimal};
+ghost use Rattle.std.specs.Prelude.{◌≡◌, ◌≢◌, ◌↔◌, IfOk, length, ◌-◌, ◌^◌, ◌<◌, ◌≤◌, ◌++◌, ◌∷◌, Bool, true, ℕ, List, Some, option_map, decimal};
 ghost use Rattle.text_lines.specs.Lines.{is_separator};
 ghost use Rattle.raid_base.specs.declared.messages.Turn.{Turn};
 ghost use Rattle.report_text.specs.Reading.{IsRead, IsTurn};
-ghost use Rattle.report_text.specs.Report.{row_line, row_word, turn_line};
+ghost use Rattle.report_text.specs.Report.{row_line, row_lines, row_word, turn_line};
 
-use raid_base::{HostNo, Turn};
+use raid_base::{HostNo, NoMemory, Turn};
+use std::alloc::Global;
 use text_lines::{first_word, read_number};
 
 /// The greatest host number.
@@ -14,8 +15,11 @@ const MOST_HOST: u64 = 15;
 /// The greatest moment.
 const MOST_MOMENT: u64 = (1 << 40) - 1;
 
+/// The greatest number of rows.
+const ROWS: u64 = 4096;
+
 /// The greatest row number.
-const MOST_ROW: u64 = 4095;
+const MOST_ROW: u64 = ROWS - 1;
 
 /// What stands behind a piece, where the text begins with it.
 fn behind<'a>(text: &'a [u8], piece: &[u8]) -> Option<&'a [u8]>
@@ -76,4 +80,24 @@ pub fn read_row(text: &[u8], row: u64) -> Option<(bool, &[u8])>
         return None;
     }
     read_row_word(word_on)
+}
+
+/// The rows, from row 0 on, as many as the text begins with lines of and 4096 at most, and what stands behind them.
+pub fn read_rows(alloc: Global, text: &[u8]) -> Result<(Vec<bool>, &[u8]), NoMemory>
+    ensures few { IfOk result (λ found. length found.0.items ≤ 4096) }
+    ensures read { IfOk result (λ found. text.now ≡ row_lines 0 found.0.items ++ found.1.now) }
+    ensures all { IfOk result (λ found. length found.0.items < 4096 → (closed : Bool) → (rest : List ℕ) → found.1.now ≢ row_line (length found.0.items) closed ++ rest) }
+{
+    let mut rows = Vec::new(alloc);
+    let mut left = text;
+    for row in 0..ROWS {
+        let Some((closed, rest)) = read_row(left, row) else {
+            return Ok((rows, left));
+        };
+        match rows.push(closed) {
+            Ok(()) => left = rest,
+            Err(_) => return Err(NoMemory),
+        }
+    }
+    Ok((rows, left))
 }

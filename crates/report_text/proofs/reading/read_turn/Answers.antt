@@ -1,4 +1,4 @@
-use Rattle.std.proofs.Common.{◌≡◌, ◌≤◌, ◌++◌, ◌∷◌, refl, ap, ◌∙◌, arith, decimal}
+use Rattle.std.proofs.Common.{◌++◌, ◌∷◌, refl, ap, ◌∙◌, arith, decimal}
 use Rattle.raid_base.specs.declared.messages.Turn.{Turn}
 use Rattle.report_text.proofs.LineReading.{none-read, none-some, some-same, turn_tail, turn-parts, turn-same, turn-read}
 use Rattle.report_text.proofs.reading.read_turn.Goals as goal

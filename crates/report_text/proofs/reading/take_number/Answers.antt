@@ -1,4 +1,4 @@
-use Rattle.std.proofs.Common.{◌≡◌, ◌++◌, ◌∷◌, Some, None, sym, ap, ◌∙◌, refl, arith, decimal}
+use Rattle.std.proofs.Common.{◌≡◌, ◌++◌, ◌∷◌, sym, ap, ◌∙◌, refl, arith, decimal}
 use Rattle.report_text.proofs.LineReading.{number-word, none-read, none-some, some-same, word-parts}
 use Rattle.report_text.proofs.reading.take_number.Goals as goal
 
