@@ -1,5 +1,5 @@
 -- Cells and contents of a row.
-use Rattle.std.proofs.Common.{◌≡◌, ℕ, ◌+◌, ◌<◌, ◌≤◌, min, List, [], ◌∷◌, ◌++◌, append_assoc, append-nil, Option, Some, None, length, get_or, take, drop, map, zip, refl, ap, sym, ◌∙◌, arith}
+use Rattle.std.proofs.Common.{◌≡◌, ℕ, ◌+◌, ◌<◌, ◌≤◌, min, List, [], ◌∷◌, ◌++◌, append_assoc, append-nil, Option, Some, None, length, get_or, take, drop, map, zip, refl, ap, sym, ◌∙◌}
 use Rattle.std.proofs.lemmas.List.{take_more}
 use Rattle.raid_base.specs.declared.messages.Grant.{Grant}
 use Rattle.raid_base.specs.declared.cells.Content.{Content}

@@ -6,4 +6,5 @@ pub mod RoomLemmas
 pub mod TakenLemmas
 pub mod ReadObeys
 pub mod WriteObeys
+pub mod PartLemmas
 pub mod WholeLemmas

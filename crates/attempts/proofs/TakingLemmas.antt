@@ -1,5 +1,5 @@
 -- What a reply leaves of a walk over shares or claims.
-use Rattle.std.proofs.Common.{◌≡◌, ◌<◌, ◌+◌, ℕ, List, [], ◌∷◌, ◌++◌, Option, Some, None, length, drop, refl, ap, sym, ◌∙◌, option_map, unwrap_or}
+use Rattle.std.proofs.Common.{◌≡◌, ◌<◌, List, Option, Some, None, length, drop, refl, ap, option_map, unwrap_or}
 use Rattle.raid_base.specs.declared.numbers.BayNo.{BayNo}
 use Rattle.raid_base.specs.declared.numbers.Number.{Number}
 use Rattle.raid_base.specs.declared.jobs.Cause.{Cause}
@@ -11,7 +11,7 @@ use Rattle.raid_base.specs.Replies.{grant_of}
 use Rattle.raid_base.specs.First.{first_errand}
 use Rattle.raid_base.specs.Steps.{Steps, behind, bind, Walk, Through, Stopped, run}
 use Rattle.raid_base.proofs.RunLemmas.{behind-run-some, behind-run-last, behind-run-none}
-use Rattle.attempts.specs.Taking.{Row, Taken, refusal, unless, with_grant, take_step, taking, why}
+use Rattle.attempts.specs.Taking.{Row, Taken, refusal, unless, with_grant, taking, why}
 
 pub before-kept : (keep : Option Grant → Row → Row) (t : Taken) (bay : BayNo) (g : Option Grant) → (with_grant keep t bay g).before ≡ t.before
 before-kept keep t bay (Some g) = refl

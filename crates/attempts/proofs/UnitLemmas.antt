@@ -1,5 +1,5 @@
 -- Units that are passed by one.
-use Rattle.std.proofs.Common.{min, is_some, append_assoc, length-drop, ◌≡◌, ℕ, ◌+◌, ◌<◌, ◌≤◌, Bool, cond, List, [], ◌∷◌, ◌++◌, Option, Some, None, length, get_or, drop, zip, refl, ap, sym, ◌∙◌, subst, arith}
+use Rattle.std.proofs.Common.{min, is_some, append_assoc, length-drop, ◌≡◌, ℕ, ◌+◌, ◌<◌, ◌≤◌, Bool, cond, List, [], ◌∷◌, ◌++◌, Option, Some, None, length, get_or, drop, zip, refl, ap, sym, ◌∙◌, arith}
 use Rattle.std.specs.List.{All, range_with_len, filter}
 use Rattle.std.proofs.lemmas.List.{map-id, at_drop_more, nil_from_length}
 use Rattle.std.proofs.lemmas.Slice.Zip.{length-zip}
@@ -53,8 +53,8 @@ pub granted_more : (acc us : List ℕ) (gs : List (Option Grant)) (i : ℕ) (d :
 granted_more acc us gs i d e h g =
     ap (λ xs. acc ++ xs) (at_zip_more granted_of us gs i d e h g ∙ granted-cons (get_or us i d) (get_or gs i e) (zip (drop (i + 1) us) (drop (i + 1) gs)))
     ∙ sym (append_assoc acc (cond (is_some (get_or gs i e)) (get_or us i d ∷ []) []) (granted_of (zip (drop (i + 1) us) (drop (i + 1) gs)))) where
-  granted-cons : (u : ℕ) (x : Option Grant) (ps : List (ℕ × Option Grant)) → granted_of ((u, x) ∷ ps) ≡ cond (is_some x) (u ∷ []) [] ++ granted_of ps
-  granted-cons u (Some x) ps = refl
-  granted-cons u None ps = refl
+      granted-cons : (u : ℕ) (x : Option Grant) (ps : List (ℕ × Option Grant)) → granted_of ((u, x) ∷ ps) ≡ cond (is_some x) (u ∷ []) [] ++ granted_of ps
+      granted-cons u (Some x) ps = refl
+      granted-cons u None ps = refl
 
 pub ruleset granted = (granted_more, at_zip_all)

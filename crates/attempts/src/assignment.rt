@@ -3,11 +3,8 @@ ghost use Rattle.std.specs.Prelude.{◌≡◌, ◌<◌, ◌≤◌, IsTrue, lengt
 ghost use Rattle.arrayvec.specs.ArrayVec.{array_vec_len};
 ghost use Rattle.attempts.specs.Parts.{are_parts};
 
-use arrayvec::ArrayVec;
-use raid_base::{Mode, Number, RowPart};
-
-/// The rows of a job with their units.
-pub type RowParts = ArrayVec<RowPart, 8>;
+use raid_base::{Mode, Number};
+use virtual_objects::RowParts;
 
 /// The units that an attempt is to read or write, on n bays, and the id that it has.
 #[derive(Debug, Drop)]

@@ -75,6 +75,15 @@ impl Row {
         self.others.as_slice()
     }
 
+    /// The same row.
+    pub fn copied(&self) -> Row
+        requires wanted { length self.now.wanted ≤ 16 }
+        requires others { length self.now.others ≤ 16 }
+        ensures { result ≡ self.now }
+    {
+        self.with_parity(self.parity)
+    }
+
     /// The same row with this parity.
     pub fn with_parity(&self, parity: Option<Grant>) -> Row
         requires wanted { length self.now.wanted ≤ 16 }
@@ -84,8 +93,8 @@ impl Row {
         Row {
             part: self.part,
             parity,
-            wanted: copied(self.wanted()),
-            others: copied(self.others()),
+            wanted: copied_grants(self.wanted()),
+            others: copied_grants(self.others()),
         }
     }
 
@@ -217,7 +226,7 @@ impl Taken {
     }
 }
 
-fn copied(grants: &[Option<Grant>]) -> Grants
+fn copied_grants(grants: &[Option<Grant>]) -> Grants
     requires { length grants.now ≤ 16 }
     ensures { result.items ≡ grants.now }
 {

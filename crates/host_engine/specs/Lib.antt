@@ -3,3 +3,10 @@ pub mod Progress
 pub mod History
 pub mod Torn
 pub mod Causes
+pub mod Parts
+pub mod Plain
+pub mod Left
+pub mod Bounds
+pub mod Stands
+pub mod Asked
+pub mod HostLaws

@@ -1,5 +1,5 @@
 -- The rows of a read, one after another.
-use Rattle.std.proofs.Common.{◌≡◌, ◌<◌, ◌+◌, ℕ, List, [], ◌∷◌, ◌++◌, true, false, length, drop, get_or, refl, ap, sym, ◌∙◌}
+use Rattle.std.proofs.Common.{◌≡◌, ◌<◌, ◌+◌, ℕ, List, [], ◌∷◌, true, false, length, drop, get_or, refl, ap, sym, ◌∙◌}
 use Rattle.std.proofs.lemmas.List.{at_drop_more}
 use Rattle.raid_base.specs.declared.jobs.RowPart.{RowPart}
 use Rattle.raid_base.specs.declared.jobs.Ended.{Ended}
@@ -7,7 +7,7 @@ use Rattle.raid_base.specs.declared.numbers.Number.{Number}
 use Rattle.raid_base.specs.declared.numbers.RowNo.{RowNo}
 use Rattle.std.specs.Prelude.{Option, Some, None}
 use Rattle.raid_base.specs.declared.messages.Errand.{Errand}
-use Rattle.raid_base.specs.Steps.{Steps, Standing, draws, settled, bind, run}
+use Rattle.raid_base.specs.Steps.{Steps, draws, settled, bind, run}
 use Rattle.raid_base.proofs.DrawLemmas.{draws-run, settled-asks, settled-draws}
 use Rattle.stripe_layout.specs.Placement.{bays_of, units_in}
 use Rattle.attempts.specs.Taking.{Access, Row, Rows, Taken, begun, with_wanted, shares}

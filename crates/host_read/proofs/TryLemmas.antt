@@ -1,5 +1,5 @@
 -- What a reply leaves of a read.
-use Rattle.std.proofs.Common.{◌==◌, ◌&&◌, nat_lt, nat_le, if◌then◌else◌, IsTrue, ◌≡◌, ◌<◌, ◌+◌, ◌↔◌, ℕ, List, [], ◌∷◌, ◌++◌, Bool, true, false, Option, Some, None, IsSome, slice_get, length, drop, refl, ap, sym, ◌∙◌, arith}
+use Rattle.std.proofs.Common.{◌==◌, ◌&&◌, nat_lt, nat_le, if◌then◌else◌, IsTrue, ◌≡◌, ◌<◌, ◌+◌, ℕ, List, [], ◌∷◌, ◌++◌, Bool, true, false, Option, Some, None, IsSome, slice_get, length, drop, refl, ap, sym, ◌∙◌, arith}
 use Rattle.raid_base.specs.declared.numbers.HostNo.{HostNo}
 use Rattle.raid_base.specs.declared.numbers.Number.{Number}
 use Rattle.raid_base.specs.declared.jobs.Cause.{Cause}
@@ -10,7 +10,7 @@ use Rattle.raid_base.specs.declared.messages.Errand.{Errand}
 use Rattle.raid_base.specs.declared.messages.Grant.{Grant}
 use Rattle.raid_base.specs.Replies.{grant_of}
 use Rattle.raid_base.specs.First.{first_errand}
-use Rattle.raid_base.specs.Steps.{Steps, Standing, next_errand, answer, stopped, draws, settled, behind, bind, Walk, Through, Stopped, run}
+use Rattle.raid_base.specs.Steps.{Steps, next_errand, answer, stopped, draws, settled, behind, bind, Walk, Through, Stopped, run}
 use Rattle.raid_base.proofs.DrawLemmas.{settled-asks}
 use Rattle.attempts.specs.Taking.{Access, Finish, Row, Rows, Taken, behind_from, refusal, with_grant}
 use Rattle.attempts.specs.Releases.{refused_steps, read_releases}
@@ -54,7 +54,7 @@ module _ (a : Access) (keep : Option Grant → Row → Row) (F : (Rows → Steps
       ap (λ xs. bind (run (sharing a keep) xs t') (F (rest_of a t'))) more
       ∙ ap (λ u. bind (run (sharing a keep) (drop 1 es) u) (F (rest_of a u))) kept
       ∙ ap (λ before. bind (run (sharing a keep) (drop 1 es) (with_grant keep t (first_errand es).bay (grant_of r))) (F (read_rows a (drop (length before + 1) a.parts))))
-        (before-kept keep t (first_errand es).bay (grant_of r))
+      (before-kept keep t (first_errand es).bay (grant_of r))
       ∙ sym (taking-some (behind_from a.mode a.id) keep es t (F (rest_of a t)) r some why)
 
   -- the reply is kept, and the walk is over
@@ -66,7 +66,7 @@ module _ (a : Access) (keep : Option Grant → Row → Row) (F : (Rows → Steps
       e
       ∙ ap (λ u. F (rest_of a u) (Through u)) kept
       ∙ ap (λ before. F (read_rows a (drop (length before + 1) a.parts)) (Through (with_grant keep t (first_errand es).bay (grant_of r))))
-        (before-kept keep t (first_errand es).bay (grant_of r))
+      (before-kept keep t (first_errand es).bay (grant_of r))
       ∙ sym (taking-last (behind_from a.mode a.id) keep es t (F (rest_of a t)) r one why)
 
 -- the first of the queue comes next

@@ -1,7 +1,5 @@
 -- What is left of the read that the code holds.
-use Rattle.std.specs.Prelude.{[], List, Option, Some, None}
-use Rattle.raid_base.specs.declared.cells.Content.{Content}
-use Rattle.raid_base.specs.declared.jobs.Ended.{Ended}
+use Rattle.std.specs.Prelude.{[]}
 use Rattle.raid_base.specs.Steps.{Steps}
 use Rattle.attempts.specs.Taking.{Finish}
 use Rattle.attempts.specs.Accesses.{access_of}

@@ -11,6 +11,7 @@ ghost use Rattle.raid_base.specs.Steps.{Through, draws, settled};
 ghost use Rattle.host_read.specs.Stages.{is_kept, is_settled};
 ghost use Rattle.host_read.specs.Left.{left_of, rest_of};
 
+use crate::stages::{Ahead, ReadStage};
 use attempts::assignment::Assignment;
 use attempts::contents::{Contents, push_row_contents};
 use attempts::errands::{share, shares};
@@ -20,7 +21,6 @@ use attempts::rows::{Taken, lacks};
 use attempts::units::{units_in, units_out};
 use place_numbers::Numbers;
 use raid_base::{Cause, Mode, Number, RowPart, Spent};
-use crate::stages::{Ahead, ReadStage};
 use stripe_layout::parity_bay;
 
 /// The shares of a part's units.

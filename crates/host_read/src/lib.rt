@@ -8,5 +8,4 @@ pub mod ahead;
 pub mod read_try;
 pub mod stages;
 
-pub use attempts::assignment::RowParts;
 pub use read_try::ReadTry;

@@ -1,7 +1,7 @@
 //! A read as a machine of requests.
 ghost use Rattle.std.specs.Prelude.{◌≡◌, ◌+◌, ◌*◌, ◌^◌, ◌<◌, ◌≤◌, [], ◌↔◌, Some, None, true, if◌then◌else◌, length, IsTrue, IsSome, IsNone, option_map};
 ghost use Rattle.arrayvec.specs.ArrayVec.{array_vec_len};
-ghost use Rattle.attempts.specs.Parts.{are_parts};
+ghost use Rattle.virtual_objects.specs.RowParts.{AreRowParts};
 ghost use Rattle.attempts.specs.Reading.{contents_of, first_row};
 ghost use Rattle.raid_base.specs.Replies.{is_done};
 ghost use Rattle.host_read.specs.Stages.{is_kept, is_settled};
@@ -11,13 +11,14 @@ ghost use Rattle.raid_base.specs.declared.messages.Errand.{Errand as ErrandView}
 use crate::ahead::{after_parity, after_wanted, end_row, refused, settled, wanted_shares};
 use crate::stages::{Ahead, ReadStage};
 use arrayvec::ArrayVec;
-use attempts::assignment::{Assignment, RowParts};
+use attempts::assignment::Assignment;
 use attempts::contents::Contents;
 use attempts::queue::Queue;
 use attempts::replies::{behind_from, refusal};
 use attempts::rows::Taken;
 use place_numbers::Numbers;
 use raid_base::{BayNo, Cause, Content, Ended, Mode, Number, Reply, Request, RowNo};
+use virtual_objects::RowParts;
 
 /// An attempt to read the units of some rows.
 #[derive(Debug, Drop)]
@@ -40,10 +41,11 @@ impl ReadTry {
     ghost use Rattle.host_read.specs.declared.stages.ReadStage.TheVariants.{Wanted, Parity, Others, Freeing};
 
     /// Begins a read of these parts of a job, on n devices.
+    #[tactic(auto, using(attempts::proofs::PartLemmas::formed))]
     pub fn begin(mode: Mode, n: u8, id: Number, parts: RowParts) -> ReadTry
         requires bays { (3 ≤ n) × (n ≤ 16) }
         requires id { (1 ≤ id.0) × (id.0 < 2 ^ 62) }
-        requires parts { IsTrue (are_parts n parts.items) }
+        requires parts { AreRowParts n parts.items }
         ensures { left result ≡ read_steps (record { mode = mode; n = n; id = id; parts = parts.items; blocks = [] }) }
     {
         let part = parts[0];
@@ -250,5 +252,48 @@ fn gone_row(gone: Option<RowNo>, request: &Request, reply: &Reply) -> Option<Row
             Request::Lose => None,
             Request::Fit => None,
         },
+    }
+}
+
+#[cfg(test)]
+mod tests {
+    use super::*;
+    use raid_base::{Cell, HostNo, RowPart};
+
+    fn granted(bytes: [u8; 64]) -> Reply {
+        Reply::Granted {
+            cell: Some(Cell { bytes, lost: 0 }),
+            read_no: Number(0),
+            write_no: Number(0),
+            last: Number(0),
+            life: 0,
+            seized: None,
+        }
+    }
+
+    fn one_unit() -> RowParts
+        ensures { AreRowParts 3 result.items }
+    {
+        let mut parts = ArrayVec::new();
+        parts.push(RowPart {
+            row: RowNo(0),
+            mask: 1,
+            at: 0,
+            count: 1,
+        });
+        parts
+    }
+
+    #[test]
+    fn reads_one_unit_under_stamps(rt: HostRuntime) {
+        let mut numbers = Numbers::new(HostNo(1));
+        let mut read = ReadTry::begin(Mode::Order, 3, Number(17), one_unit());
+        assert_eq!(rt; read.next(&[]).map(|(bay, _)| bay), Some(BayNo(0)));
+        if read.next(&[]).is_some() {
+            read.take(&[], &granted([7; 64]), &mut numbers);
+        }
+        assert_eq!(rt; read.next(&[]), None);
+        assert_eq!(rt; read.end(), Some(Ended::Read { number: Number(17) }));
+        assert_eq!(rt; read.contents(), [Content::Bytes([7; 64])].as_slice());
     }
 }

@@ -1,8 +1,8 @@
 -- Claims of a row.
-use Rattle.std.proofs.Common.{◌≡◌, ℕ, ◌+◌, ◌<◌, ◌≤◌, ◌-◌, ◌&&◌, ◌==◌, nat_le, not, Bool, true, false, IsTrue, List, [], ◌∷◌, ◌++◌, length, get_or, drop, refl, ap, sym, ◌∙◌, arith}
-use Rattle.std.specs.List.{filter, list_all, range_with_len}
+use Rattle.std.proofs.Common.{◌≡◌, ℕ, ◌+◌, ◌<◌, ◌≤◌, ◌-◌, ◌&&◌, nat_le, not, Bool, true, false, IsTrue, List, [], ◌∷◌, ◌++◌, length, get_or, drop, refl, ap, sym, ◌∙◌, arith}
+use Rattle.std.specs.List.{list_all, range_with_len}
 use Rattle.std.proofs.lemmas.Bool.Decides.{nat_tests}
-use Rattle.std.proofs.lemmas.List.{at_drop_more, at_drop_all, length_push}
+use Rattle.std.proofs.lemmas.List.{at_drop_more, length_push}
 use Rattle.std.proofs.lemmas.List.Filters.{length-filter_both}
 use Rattle.std.proofs.lemmas.List.Folds.{list_all_at, list_all-append}
 use Rattle.std.proofs.lemmas.List.FromFn.{length-range_with_len}
@@ -18,7 +18,7 @@ use Rattle.attempts.specs.Puts.{Puts}
 use Rattle.attempts.specs.Writing.{claiming, parity_claim, parity_claimed, claim_rows, confirm_rows, row_confirm}
 use Rattle.host_write.specs.Stages.{is_row, are_rows}
 use Rattle.host_write.specs.declared.stages.WriteStage.TheVariants.{ClaimParity, Confirm}
-use Rattle.host_write.specs.Left.{left_of, rest_of, row_at, confirmed_so_far}
+use Rattle.host_write.specs.Left.{left_of, row_at, confirmed_so_far}
 
 pub ruleset none_asked = (run-none)
 
@@ -64,13 +64,15 @@ row-of n total rows i d h all = all-at (is_row n total) rows i d h (rows-all n t
 pub rows-push : (n total : ℕ) (rows : List Row) (row : Row) → length rows < 8 → are_rows n total rows ≡ true → is_row n total row ≡ true → are_rows n total (rows ++ row ∷ []) ≡ true
 rows-push n total rows row h all one =
     both (nat_le (length (rows ++ row ∷ [])) 8) (list_all (is_row n total) (rows ++ row ∷ [])) few each where
-  both : (a b : Bool) → a ≡ true → b ≡ true → (a && b) ≡ true
-  both true b e f = f
-  both false b e f = cc
-  few : nat_le (length (rows ++ row ∷ [])) 8 ≡ true
-  few = grind (arith, nat_tests, length_push rows row)
-  each : list_all (is_row n total) (rows ++ row ∷ []) ≡ true
-  each = list_all-append (is_row n total) rows (row ∷ []) ∙ both (list_all (is_row n total) rows) (list_all (is_row n total) (row ∷ [])) (rows-all n total rows all) (both (is_row n total row) true one refl)
+      both : (a b : Bool) → a ≡ true → b ≡ true → (a && b) ≡ true
+      both true b e f = f
+      both false b e f = cc
+
+      few : nat_le (length (rows ++ row ∷ [])) 8 ≡ true
+      few = grind (arith, nat_tests, length_push rows row)
+
+      each : list_all (is_row n total) (rows ++ row ∷ []) ≡ true
+      each = list_all-append (is_row n total) rows (row ∷ []) ∙ both (list_all (is_row n total) rows) (list_all (is_row n total) (row ∷ [])) (rows-all n total rows all) (both (is_row n total row) true one refl)
 
 pub ruleset parts = (part-most, part-some, part-at, rows-push, row-of)
 

@@ -1,18 +1,17 @@
 -- The puts of a row.
-use Rattle.std.proofs.Common.{◌≡◌, ℕ, ◌+◌, ◌<◌, ◌≤◌, ◌-◌, ◌&&◌, ◌==◌, nat_le, Bool, true, false, List, [], ◌∷◌, ◌++◌, Option, Some, None, length, get_or, drop, refl, ap, sym, ◌∙◌, arith}
+use Rattle.std.proofs.Common.{◌≡◌, ℕ, ◌+◌, ◌<◌, ◌≤◌, ◌-◌, ◌&&◌, nat_le, Bool, true, false, List, [], ◌∷◌, Some, None, length, get_or, drop, refl, ap, sym, ◌∙◌, arith}
 use Rattle.std.proofs.lemmas.Bool.Decides.{nat_tests}
-use Rattle.std.proofs.lemmas.List.{at_drop_more, at_drop_all, nil_from_length}
+use Rattle.std.proofs.lemmas.List.{at_drop_more}
 use Rattle.raid_base.specs.declared.numbers.Number.{Number}
 use Rattle.raid_base.specs.declared.messages.Errand.{Errand}
 use Rattle.raid_base.specs.declared.messages.Grant.{Grant}
-use Rattle.raid_base.specs.Steps.{bind, run, Through}
 use Rattle.raid_base.proofs.RunLemmas.{run-none}
-use Rattle.attempts.specs.Parts.{blocks_in, is_part}
+use Rattle.attempts.specs.Parts.{is_part}
 use Rattle.attempts.specs.Taking.{Access, Row, Taken}
 use Rattle.attempts.specs.Puts.{Puts, at_row, data_puts, putting_data, parity_put}
-use Rattle.attempts.specs.Writing.{put_rows, put_parity, data_done, write_last, reader_releases}
+use Rattle.attempts.specs.Writing.{put_rows, put_parity, data_done, write_last}
 use Rattle.host_write.specs.Stages.{is_row, are_rows}
-use Rattle.host_write.specs.declared.stages.WriteStage.TheVariants.{PutData, PutParity, Finish}
+use Rattle.host_write.specs.declared.stages.WriteStage.TheVariants.{PutData, PutParity}
 use Rattle.host_write.specs.Left.{left_of, row_at, puts_of}
 use Rattle.host_write.proofs.ClaimLemmas.{part-most, part-some, part-within, row-of}
 

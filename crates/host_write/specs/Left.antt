@@ -1,6 +1,5 @@
 -- What is left of a write.
-use Rattle.std.specs.Prelude.{ℕ, ◌+◌, List, [], length, drop, slice_index_or}
-use Rattle.raid_base.specs.declared.jobs.RowPart.{RowPart}
+use Rattle.std.specs.Prelude.{ℕ, ◌+◌, List, length, drop, slice_index_or}
 use Rattle.raid_base.specs.declared.numbers.Number.{Number}
 use Rattle.raid_base.specs.declared.jobs.Ended.TheVariants.{Refused}
 use Rattle.raid_base.specs.declared.messages.Errand.{Errand}

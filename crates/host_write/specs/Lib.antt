@@ -1,3 +1,6 @@
 pub mod Troubles
+pub mod Lives
 pub mod Stages
 pub mod Left
+pub mod Answers
+pub mod Tries

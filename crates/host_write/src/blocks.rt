@@ -1,8 +1,8 @@
 //! The blocks that a write puts.
-ghost use Rattle.std.specs.Prelude.{◌≡◌, ◌+◌, ◌-◌, ◌*◌, ◌<◌, ◌≤◌, length, take, drop, map, slice_index_or, All};
+ghost use Rattle.std.specs.Prelude.{◌≡◌, ◌+◌, ◌-◌, ◌*◌, ◌<◌, ◌≤◌, length, take, drop, map, slice_index_or, unwrap_or, All};
 ghost use Rattle.arrayvec.specs.ArrayVec.{array_vec_len};
 ghost use Rattle.raid_base.specs.Cells.{zeros, plain_cell};
-ghost use Rattle.stripe_layout.specs.Placement.{bay_of, units_in};
+ghost use Rattle.stripe_layout.specs.Placement.{bay_of, unit_at, units_in};
 ghost use Rattle.virtual_objects.specs.Objects.{rank};
 ghost use Rattle.attempts.specs.Accesses.{access_of};
 ghost use Rattle.attempts.specs.Puts.{block_at, put, data_puts};
@@ -14,8 +14,8 @@ use attempts::holds::wanted_granted;
 use attempts::queue::Queue;
 use attempts::rows::Row;
 use attempts::units::units_in;
-use raid_base::{Cell, Errand, Number, RowPart};
-use stripe_layout::bay_of;
+use raid_base::{BayNo, Cell, Errand, Number, RowNo, RowPart};
+use stripe_layout::{bay_of, parity_bay};
 
 /// A unit's place among some units, and their number where it is none of them.
 pub fn rank(units: &[u8], unit: u8) -> usize
@@ -76,7 +76,13 @@ fn data_put(
         bytes: block_at(job, blocks, part, unit),
         lost: 0,
     };
-    errands::put(job.id, part.row, number, cell, bay_of(job.n, part.row, unit))
+    errands::put(
+        job.id,
+        part.row,
+        number,
+        cell,
+        bay_of(job.n, part.row, unit),
+    )
 }
 
 /// The puts of the wanted units of a row that are there.
@@ -91,4 +97,17 @@ pub fn data_puts(job: &Assignment, blocks: &[[u8; 64]], number: Number, row: &Ro
         errands.push(data_put(job, blocks, number, part, *unit));
     }
     Queue::new(errands)
+}
+
+/// The unit on a bay, and 0 where the parity is there.
+pub fn unit_on(n: u8, row: RowNo, bay: BayNo) -> u8
+    requires { 3 ≤ n × (n ≤ 16) }
+    ensures { result ≡ unwrap_or (unit_at n row bay) 0 }
+{
+    let parity = parity_bay(n, row);
+    if bay.0 == parity.0 {
+        return 0;
+    }
+    let place = u16::from(bay.0) + u16::from(n) - u16::from(parity.0) - 1;
+    (place % u16::from(n)) as u8
 }

@@ -32,12 +32,7 @@ fn fold_change(acc: &mut Cell, unit: u8, grant: Option<Grant>, block: &[u8; 64])
 
 /// The parity with the changes of these units.
 #[tactic(auto, using(crate::proofs::ParityLemmas::folds))]
-fn fold_changes(
-    parity: Cell,
-    units: &[u8],
-    grants: &[Option<Grant>],
-    blocks: &[[u8; 64]],
-) -> Cell
+fn fold_changes(parity: Cell, units: &[u8], grants: &[Option<Grant>], blocks: &[[u8; 64]]) -> Cell
     requires { All (λ unit. unit < 15) units.now }
     ensures { result ≡ folded parity units.now grants.now blocks.now }
 {

@@ -1,7 +1,7 @@
 //! What a write does next, while it puts its rows.
 ghost use Rattle.std.specs.Prelude.{◌≡◌, ℕ, List, [], ◌∷◌, ◌+◌, ◌*◌, ◌<◌, ◌≤◌, Some, true, length, drop};
 ghost use Rattle.arrayvec.specs.ArrayVec.{array_vec_len};
-ghost use Rattle.raid_base.specs.Steps.{Through};
+ghost use Rattle.raid_base.specs.Steps.{Through, settled};
 ghost use Rattle.attempts.specs.Accesses.{access_of};
 ghost use Rattle.attempts.specs.Parts.{blocks_in};
 ghost use Rattle.attempts.specs.Taking.{Taken as TakenView};
@@ -17,7 +17,8 @@ use crate::stages::{Ahead, WriteStage};
 use attempts::assignment::Assignment;
 use attempts::holds::{reader_releases, write_releases};
 use attempts::queue::Queue;
-use attempts::rows::Row;
+use attempts::rows::{Row, Taken};
+use place_numbers::Numbers;
 use raid_base::{Cause, Mode, Number, Spent};
 
 /// The releases of the readers, which under stamps there are none of.
@@ -71,5 +72,130 @@ pub fn next_put(
             queue: Queue::one(parity_put(job, blocks, number, this)),
         },
         None => next_put(job, blocks, rows, puts, number, row + 1),
+    }
+}
+
+/// What follows the data puts of a row: the put of the parity where it is there.
+#[tactic(auto, using(crate::proofs::PuttingLemmas::puts))]
+pub fn after_data(
+    job: &Assignment,
+    blocks: &[[u8; 64]],
+    rows: &[Row],
+    puts: &mut Puts,
+    number: Number,
+    row: usize,
+) -> Ahead
+    requires blocks { length blocks.now ≡ blocks_in job.now.parts.items }
+    requires rows { are_rows job.now.n (blocks_in job.now.parts.items) rows.now ≡ true }
+    requires row { row < length rows.now }
+    requires made { length puts.old.made ≤ 45 * row + 15 }
+    requires left { length puts.old.left ≤ 15 }
+    requires troubles { length puts.old.troubles ≤ 16 * row + 15 }
+    ensures left { (t : TakenView) → left_of result.stage (access_of job.now blocks.now) t rows.now puts.new result.queue ≡ data_done (access_of job.now blocks.now) number (row_at rows.now row) (puts_of (access_of job.now blocks.now) number rows.now row) (Through puts.old) }
+    ensures kept { (t : TakenView) → is_kept result.stage job.now.n job.now.parts.items (length result.queue) t rows.now puts.new ≡ true }
+    ensures awake { is_settled result.stage ≡ true }
+{
+    let done = &rows[row];
+    match done.parity() {
+        Some(_) => Ahead {
+            stage: WriteStage::PutParity { number, row },
+            queue: Queue::one(parity_put(job, blocks, number, done)),
+        },
+        None => next_put(job, blocks, rows, puts, number, row + 1),
+    }
+}
+
+/// Begins the puts, with the number of the write.
+fn first_put(
+    job: &Assignment,
+    blocks: &[[u8; 64]],
+    rows: &[Row],
+    puts: &mut Puts,
+    number: Number,
+) -> Ahead
+    requires blocks { length blocks.now ≡ blocks_in job.now.parts.items }
+    requires rows { are_rows job.now.n (blocks_in job.now.parts.items) rows.now ≡ true }
+    ensures left { (t : TakenView) → left_of result.stage (access_of job.now blocks.now) t rows.now puts.new result.queue ≡ put_steps (access_of job.now blocks.now) number rows.now }
+    ensures kept { (t : TakenView) → is_kept result.stage job.now.n job.now.parts.items (length result.queue) t rows.now puts.new ≡ true }
+    ensures awake { is_settled result.stage ≡ true }
+{
+    *puts = Puts::new();
+    next_put(job, blocks, rows, puts, number, 0)
+}
+
+/// What follows the last confirm: under stamps the puts, and under locks the draw.
+pub fn numbered(job: &Assignment, blocks: &[[u8; 64]], rows: &[Row], puts: &mut Puts) -> Ahead
+    requires blocks { length blocks.now ≡ blocks_in job.now.parts.items }
+    requires rows { are_rows job.now.n (blocks_in job.now.parts.items) rows.now ≡ true }
+    ensures left { (t : TakenView) → left_of result.stage (access_of job.now blocks.now) t rows.now puts.new result.queue ≡ write_numbered job.now.mode (access_of job.now blocks.now) rows.now }
+    ensures kept { (t : TakenView) → is_kept result.stage job.now.n job.now.parts.items (length result.queue) t rows.now puts.new ≡ true }
+{
+    match job.mode {
+        Mode::Order => first_put(job, blocks, rows, puts, job.id),
+        Mode::Lock => Ahead {
+            stage: WriteStage::Draw,
+            queue: Queue::empty(),
+        },
+    }
+}
+
+/// What follows the draw of the number.
+fn drawn(
+    job: &Assignment,
+    blocks: &[[u8; 64]],
+    rows: &[Row],
+    puts: &mut Puts,
+    number: Result<Number, Spent>,
+) -> Ahead
+    requires blocks { length blocks.now ≡ blocks_in job.now.parts.items }
+    requires rows { are_rows job.now.n (blocks_in job.now.parts.items) rows.now ≡ true }
+    ensures left { (t : TakenView) → left_of result.stage (access_of job.now blocks.now) t rows.now puts.new result.queue ≡ write_drawn (access_of job.now blocks.now) rows.now number }
+    ensures kept { (t : TakenView) → is_kept result.stage job.now.n job.now.parts.items (length result.queue) t rows.now puts.new ≡ true }
+    ensures awake { is_settled result.stage ≡ true }
+{
+    match number {
+        Ok(number) => first_put(job, blocks, rows, puts, number),
+        Err(spent) => Ahead {
+            stage: WriteStage::Release {
+                cause: Cause::Spent { seen: spent.seen },
+            },
+            queue: Queue::new(write_releases(job.mode, job.n, job.id, rows)),
+        },
+    }
+}
+
+/// Draws the number where it is time to.
+#[tactic(auto, using(crate::proofs::DrawnLemmas::settles))]
+pub fn settled(
+    job: &Assignment,
+    blocks: &[[u8; 64]],
+    taken: &Taken,
+    rows: &[Row],
+    puts: &mut Puts,
+    ahead: Ahead,
+    numbers: &mut Numbers,
+) -> Ahead
+    requires blocks { length blocks.now ≡ blocks_in job.now.parts.items }
+    requires kept { is_kept ahead.stage job.now.n job.now.parts.items (length ahead.queue) taken.now rows.now puts.old ≡ true }
+    ensures left { record { seen = numbers.new.seen; steps = left_of result.stage (access_of job.now blocks.now) taken.now rows.now puts.new result.queue } ≡ settled numbers.old.host numbers.old.seen (left_of ahead.stage (access_of job.now blocks.now) taken.now rows.now puts.old ahead.queue) }
+    ensures host { numbers.new.host ≡ numbers.old.host }
+    ensures kept { is_kept result.stage job.now.n job.now.parts.items (length result.queue) taken.now rows.now puts.new ≡ true }
+    ensures awake { is_settled result.stage ≡ true }
+{
+    match ahead.stage {
+        WriteStage::Draw => {
+            let number = numbers.draw();
+            drawn(job, blocks, rows, puts, number)
+        }
+        WriteStage::ClaimParity => ahead,
+        WriteStage::ClaimWanted => ahead,
+        WriteStage::ClaimSmall => ahead,
+        WriteStage::ShareUntil => ahead,
+        WriteStage::ShareAfter => ahead,
+        WriteStage::Confirm => ahead,
+        WriteStage::PutData { .. } => ahead,
+        WriteStage::PutParity { .. } => ahead,
+        WriteStage::Finish { .. } => ahead,
+        WriteStage::Release { .. } => ahead,
     }
 }

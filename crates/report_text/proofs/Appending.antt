@@ -1,5 +1,5 @@
 -- How appends follow one another.
-use Rattle.std.proofs.Common.{◌≡◌, ℕ, ◌≤◌, ◌<◌, ◌+◌, ◌-◌, ◌^◌, min, Bool, true, false, List, [], ◌∷◌, ◌++◌, take, drop, get_or, length, Result, Ok, Err, OnOk, OnErr, is_err, IsErr, refl, sym, ap, ◌∙◌, subst, arith, append_assoc, append-nil, length-append}
+use Rattle.std.proofs.Common.{◌≡◌, ℕ, ◌≤◌, ◌<◌, ◌+◌, Bool, List, [], ◌∷◌, ◌++◌, take, drop, get_or, length, Result, Ok, Err, OnOk, OnErr, IsErr, refl, sym, ap, ◌∙◌, arith, append_assoc, append-nil, length-append}
 use Rattle.std.proofs.Math.Seq.{take-append-add}
 use Rattle.std.proofs.lemmas.List.{take_more, take-append-drop, take_all, take-append-le}
 use Rattle.std.proofs.lemmas.Grind.{flat_map-append}
@@ -7,7 +7,7 @@ use Rattle.std.specs.List.{flat_map}
 use Rattle.raid_base.specs.declared.status.Failed.{Failed}
 use Rattle.text_lines.specs.Lines.{spaced, joined, line}
 use Rattle.raid_base.specs.Counts.{HasCause}
-use Rattle.raid_base.specs.Streams.{AppendsPart, AppendsFirst}
+use Rattle.raid_base.specs.Streams.{AppendsPart}
 use Rattle.report_text.specs.Appends.{Appends}
 
 -- a part of a piece is a part of a text that begins with it

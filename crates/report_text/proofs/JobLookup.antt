@@ -1,15 +1,12 @@
 -- The job of a result.
-use Rattle.std.proofs.Common.{◌≡◌, ◌≢◌, ◌==◌, ℕ, zero, suc, subst, map, take, ◌++◌, ◌<◌, ◌≤◌, ◌+◌, Bool, true, false, cond, List, [], ◌∷◌, drop, get_or, length, Option, Some, None, refl, sym, ap, ◌∙◌, arith, eq-eqb}
-use Rattle.std.specs.Prelude.{find, All, slice_get}
+use Rattle.std.proofs.Common.{◌≡◌, ◌≢◌, ◌==◌, ℕ, zero, suc, map, take, ◌++◌, ◌<◌, ◌≤◌, ◌+◌, Bool, true, false, cond, List, [], ◌∷◌, drop, get_or, length, Some, None, refl, sym, ap, ◌∙◌, arith, eq-eqb}
+use Rattle.std.specs.Prelude.{find, slice_get}
 use Rattle.std.proofs.lemmas.List.{at_drop_more, at_drop_all}
 use Rattle.std.proofs.lemmas.Bool.Decides.{nat_tests}
 use Rattle.raid_base.specs.declared.numbers.HostNo.{HostNo}
 use Rattle.raid_base.specs.declared.jobs.Job.{Job}
-use Rattle.script_text.specs.Script.{Script, HostJobs, jobs_in, jobs_of}
-use Rattle.script_text.specs.Ranges.{IsScript, IsJob, IsTask}
-use Rattle.raid_base.specs.declared.jobs.Task.{Task}
-use Rattle.raid_base.specs.declared.jobs.Task.TheVariants.{Read, Write, Recover, Lose, Fit, Rebuild}
-use Rattle.report_text.specs.Views.{task_blocks, contents_of, flags_of, contents_by_result}
+use Rattle.script_text.specs.Script.{Script, HostJobs, jobs_in}
+use Rattle.report_text.specs.Views.{contents_of, flags_of, contents_by_result}
 use Rattle.report_text.specs.Report.{job_line, job_lines}
 use Rattle.raid_base.specs.declared.jobs.JobResult.{JobResult}
 use Rattle.raid_base.specs.declared.cells.Content.{Content}

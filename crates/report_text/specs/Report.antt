@@ -1,8 +1,6 @@
 -- The text of a report.
 use Rattle.std.specs.Prelude.{ℕ, ◌+◌, Bool, true, false, List, [], ◌∷◌, ◌++◌, map, length, Option, Some, None, codes, decimal, if◌then◌else◌}
 use Rattle.std.specs.List.{flat_map, range_with_len}
-use Rattle.raid_base.specs.declared.numbers.BayNo.{BayNo}
-use Rattle.raid_base.specs.declared.numbers.RowNo.{RowNo}
 use Rattle.raid_base.specs.declared.cells.Content.{Content}
 use Rattle.raid_base.specs.declared.cells.Content.TheVariants as contents
 use Rattle.raid_base.specs.declared.cells.Shown.{Shown}

@@ -8,6 +8,7 @@ mod blocks;
 mod jobs;
 mod lines;
 mod present;
+mod reading;
 pub mod report;
 mod rows;
 mod sections;

@@ -1,6 +1,7 @@
 //! Lines byte for byte, and what rows show.
 
 use crate::lines::{put_block, put_job};
+use crate::reading::{read_rows, read_turn};
 use crate::report::{Final, write_report};
 use crate::rows::shown_in;
 use crate::sections::{put_rows, put_turns};
@@ -313,5 +314,28 @@ fn a_full_sink_has_a_first_part_of_the_report(rt: HostRuntime) -> Result<(), Fai
     assert!(rt; !is_done);
     assert_eq!(rt; sink.faults(), 1);
     assert!(rt; sink.written() == b"report 1\njob 1 0 wrote 1\njob 1 1 re".as_slice());
+    Ok(())
+}
+
+#[test]
+fn lines_are_read_back(rt: HostRuntime) -> Result<(), Fail> {
+    let (last, left) = read_turn(b"turn 15 1099511627775\nrow").ok_or("no turn")?;
+    assert_eq!(rt; last.host, HostNo(15));
+    assert_eq!(rt; last.moment, 1099511627775);
+    assert!(rt; left == b"row".as_slice());
+    let others: [&[u8]; 6] = [
+        b"turn 16 7\n",
+        b"turn 1 1099511627776\n",
+        b"turn 01 7\n",
+        b"turn 1  7\n",
+        b"turn 1 7",
+        b"turns 1\n",
+    ];
+    for text in others {
+        assert!(rt; read_turn(text).is_none());
+    }
+    let (rows, left) = read_rows(rt.alloc(), b"row 0 closed\nrow 1 open\nrow 3 open\n")?;
+    assert!(rt; rows.as_slice() == [true, false].as_slice());
+    assert!(rt; left == b"row 3 open\n".as_slice());
     Ok(())
 }

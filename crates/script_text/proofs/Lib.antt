@@ -1,2 +1,4 @@
 pub mod FirstLemmas
 pub mod WeightLemmas
+pub mod WriteTexts
+pub mod FirstScripts

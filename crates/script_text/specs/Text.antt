@@ -48,6 +48,11 @@ abbrev pub quit_words : Option ℕ → Words
 quit_words None = []
 quit_words (Some requests) = codes "quit" ∷ decimal requests ∷ []
 
+-- the same as the front of a line
+abbrev pub quit_prefix : Option ℕ → List ℕ
+quit_prefix None = []
+quit_prefix (Some requests) = codes "quit " ++ (decimal requests ++ codes " ")
+
 abbrev pub job_words : Script → Job → Words
 job_words script job = quit_words job.quit ++ task_words script job.task
 

@@ -4,6 +4,7 @@ ghost use Rattle.script_text.specs.declared.first.FirstForm.{FirstForm};
 ghost use Rattle.script_text.specs.First.{AreInRange, HasFields, IsFirstForm, IsForm, jobs_of, objects_of, script_of};
 ghost use Rattle.raid_base.specs.Names.{IsNameText};
 ghost use Rattle.text_lines.specs.Blocks.{IsBlock};
+ghost use Rattle.script_text.specs.Ranges.{IsScript};
 ghost use Rattle.script_text.specs.Script.{Script as ScriptValue};
 ghost use Rattle.script_text.specs.Text.{script_text};
 
@@ -226,6 +227,7 @@ fn script_of(alloc: Global, form: &FirstForm) -> Result<Script, NoMemory>
 /// The script of which the bytes are the text, where it is one of the first form, and none where they are no such
 /// script's text.
 pub fn read_first(alloc: Global, bytes: &[u8]) -> Result<Option<Script>, NoMemory>
+    ensures script { IfOk result (λ found. IfSome found IsScript) }
     ensures some { IfOk result (λ found. IfSome found (λ script. IsFirstForm script × (bytes.now ≡ script_text script))) }
     ensures none { IfOk result (λ found. IfNone found ((script : ScriptValue) → IsFirstForm script → bytes.now ≢ script_text script)) }
 {
@@ -234,3 +236,8 @@ pub fn read_first(alloc: Global, bytes: &[u8]) -> Result<Option<Script>, NoMemor
         None => Ok(None),
     }
 }
+
+/// Law: a script of the first form keeps all ranges of a script.
+pub fn first_forms_are_scripts()
+    ensures { (script : ScriptValue) → IsFirstForm script → IsScript script }
+{}

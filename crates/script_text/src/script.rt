@@ -63,11 +63,22 @@ impl Model for Script {
 
 impl Script {
     ghost use Rattle.std.specs.Prelude.{◌≡◌};
+    ghost use Rattle.script_text.specs.Script.{blocks_of};
 
     /// The hosts with their jobs, rising by their numbers.
     pub fn hosts(&self) -> &[HostJobs]
         ensures { result.now ≡ self.now.hosts }
     {
         self.hosts.as_slice()
+    }
+
+    /// So many blocks of the script's list, from this place on, as far as there are.
+    pub fn blocks_of(&self, from: u32, count: u8) -> &[[u8; 64]]
+        ensures { result.now ≡ blocks_of self.now from count }
+    {
+        let blocks = self.blocks.as_slice();
+        let start = blocks.len().min(from as usize);
+        let end = blocks.len().min(start + count as usize);
+        &blocks[start..end]
     }
 }

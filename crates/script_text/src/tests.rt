@@ -1,6 +1,7 @@
 //! Scripts from their text.
 
-use crate::read_first;
+use crate::{read_first, write_script};
+use raid_base::MemorySink;
 use std::test::Fail;
 
 const SMALLEST: &[u8] =
@@ -30,5 +31,14 @@ fn reads_no_other_text_as_the_first_form(rt: HostRuntime) -> Result<(), Fail> {
     for text in texts {
         assert!(rt; read_first(rt.alloc(), text)?.is_none());
     }
+    Ok(())
+}
+
+#[test]
+fn writes_what_it_read(rt: HostRuntime) -> Result<(), Fail> {
+    let script = read_first(rt.alloc(), SMALLEST)?.ok_or("no script")?;
+    let mut sink = MemorySink::make(rt.alloc(), 200, Vec::new(rt.alloc()))?;
+    write_script(&mut sink, &script)?;
+    assert_eq!(rt; sink.written(), SMALLEST);
     Ok(())
 }

@@ -38,27 +38,43 @@ is_within object first count address = is_text address.object object && nat_le f
 abbrev pub new_content : Script → ℕ → ℕ → ℕ → Content
 new_content script first from block = Bytes (slice_index_or script.blocks (from + (block - first)) zeros)
 
+-- the blocks that a task writes: some of an object's, and the place of the first in the script's list
+pub record Written : Type 0 where
+  pub object : Name
+  pub first : ℕ
+  pub from : ℕ
+  pub count : ℕ
+
+abbrev pub written_by : Task → Option Written
+written_by (tasks.Write object first from count) = Some (record { object = object; first = first; from = from; count = count })
+written_by _ = None
+
+abbrev pub with_written : Script → Option Written → (ℕ → Bool) → Array → Array
+with_written script None is_made array address = array address
+with_written script (Some w) is_made array address =
+    if is_within w.object w.first w.count address && is_made (address.block - w.first) then new_content script w.first w.from address.block else array address
+
+-- those blocks of a write that are made take their new contents
 abbrev pub with_blocks : Script → Task → (ℕ → Bool) → Array → Array
-with_blocks script (tasks.Write object first from count) is_made array address =
-    if is_within object first count address && is_made (address.block - first) then new_content script first from address.block else array address
-with_blocks script (tasks.Read object first count) is_made array address = array address
-with_blocks script (tasks.Recover row) is_made array address = array address
-with_blocks script (tasks.Lose bay) is_made array address = array address
-with_blocks script (tasks.Fit bay) is_made array address = array address
-with_blocks script (tasks.Rebuild bay) is_made array address = array address
+with_blocks script task is_made array = with_written script (written_by task) is_made array
 
 abbrev pub is_place : RowNo → ℕ → Option (RowNo × ℕ) → Bool
 is_place row unit None = false
 is_place row unit (Some (r, u)) = (r.0 == row.0) && (u == unit)
 
+-- the row that a task recovers
+abbrev pub recovered_by : Task → Option RowNo
+recovered_by (tasks.Recover row) = Some row
+recovered_by _ = None
+
+abbrev pub with_lost_at : Script → Option RowNo → Option ℕ → Array → Array
+with_lost_at script (Some row) (Some unit) array address = if is_place row unit (place script.n script.objects address) then Lost else array address
+with_lost_at script (Some row) None array address = array address
+with_lost_at script None lost array address = array address
+
+-- the block on the lost unit of a recovered row is lost
 abbrev pub with_lost : Script → Task → Option ℕ → Array → Array
-with_lost script task None array address = array address
-with_lost script (tasks.Recover row) (Some unit) array address = if is_place row unit (place script.n script.objects address) then Lost else array address
-with_lost script (tasks.Read object first count) (Some unit) array address = array address
-with_lost script (tasks.Write object first from count) (Some unit) array address = array address
-with_lost script (tasks.Lose bay) (Some unit) array address = array address
-with_lost script (tasks.Fit bay) (Some unit) array address = array address
-with_lost script (tasks.Rebuild bay) (Some unit) array address = array address
+with_lost script task lost array = with_lost_at script (recovered_by task) lost array
 
 -- The effect of a result: a write's blocks, those that a part has made, a unit named lost, or nothing.
 abbrev pub effect : Script → Task → JobEnd → Array → Array

@@ -1,5 +1,6 @@
 -- Judging, then the store if it is needed, then applying is the rule.
-use Rattle.std.proofs.Common.{◌≡◌, ℕ, ◌<◌, ◌≤◌, Bool, true, false, if◌then◌else◌, List, [], length, Option, Some, None, is_some, slice_index_or, slice_set, refl, sym, ap, subst, ◌∙◌}
+use Rattle.std.proofs.Common.{◌≡◌, ℕ, ◌<◌, ◌≤◌, Bool, true, false, if◌then◌else◌, List, [], length, replicate, Option, Some, None, is_some, IsSome, slice_index_or, slice_set, refl, sym, ap, subst, ◌∙◌, rules}
+use Rattle.std.proofs.lemmas.List.{get_or-replicate}
 use Rattle.raid_base.specs.declared.cells.Cell.{Cell}
 use Rattle.raid_base.specs.declared.numbers.Number.{Number}
 use Rattle.raid_base.specs.declared.numbers.RowNo.{RowNo}
@@ -9,17 +10,20 @@ use Rattle.raid_base.specs.declared.messages.Reply.TheVariants.{Fault}
 use Rattle.raid_base.specs.declared.messages.Request.{Request}
 use Rattle.raid_base.specs.declared.messages.Request.TheVariants.{Share, Claim, Confirm, Put, Release, Lose, Fit}
 use Rattle.raid_base.specs.Numbers.{number}
+use Rattle.raid_base.specs.Fits.{fits}
 use Rattle.raid_base.specs.Replies.{is_fault}
 use Rattle.slot_rules.specs.declared.slot.Verdict.{Verdict}
 use Rattle.slot_rules.specs.declared.slot.Verdict.TheVariants.{Say, NeedRead, NeedWrite}
 use Rattle.slot_rules.specs.Slots.{Slot, Bay, slot_of, bare_slot}
-use Rattle.slot_rules.specs.Rules.{Outcome, rule}
+use Rattle.slot_rules.specs.Rules.{Outcome, lose_rule, fit_rule, rule_of, rule}
 use Rattle.slot_rules.specs.Tables.{Table, cell_of, with_block, with_blocks, lost_of, first_kept}
-use Rattle.slot_rules.specs.Serving.{row_of, is_put, need, verdict_of, needed_cell, cell_at, served_cell, blocks_after}
+use Rattle.slot_rules.specs.Serving.{IsVerdict, row_of, is_put, need, verdict_of, needed_cell, cell_at, served_cell, blocks_after}
+use Rattle.slot_rules.specs.Parts.{ServedRow}
 use Rattle.slot_rules.specs.Laws.{uses_store}
 use Rattle.slot_rules.specs.Handling.{Handled}
 use Rattle.slot_rules.proofs.TableLists.{slot-there}
-use Rattle.slot_rules.proofs.RuleLaws.{faults_lem, cells-there}
+use Rattle.slot_rules.proofs.TableParts.{applied-reply}
+use Rattle.slot_rules.proofs.RuleLaws.{replies_fit_lem, faults_lem, cells-there}
 
 -- what `Slots::apply` ensures
 pub record Applied (slots : Table) (ask : Ask) (cell : Option Cell) (reply : Reply) (slots' : Table) : Type 0 where
@@ -166,3 +170,56 @@ handled-failed slots blocks ask u =
     let bay = with_blocks slots blocks in
     let failed = (faults_lem bay ask).failed u in
     record { reply_is = sym (ap (λ (o : Outcome). o.reply) failed); bay_is = sym (ap (λ (o : Outcome). o.bay) failed) }
+
+lose_spared : (bay : Bay) (b : Bool) → is_fault (lose_rule bay b).reply ≡ false
+lose_spared bay true = refl
+lose_spared bay false = refl
+
+fit_spared : (bay : Bay) (b : Bool) → is_fault (fit_rule bay b).reply ≡ false
+fit_spared bay true = refl
+fit_spared bay false = refl
+
+device_spared : (bay : Bay) (ask : Ask) (what : Request) → row_of what ≡ None → is_fault (rule_of bay ask true what).reply ≡ false
+device_spared bay ask (Share row id want) e = cc
+device_spared bay ask (Claim row id how mask want) e = cc
+device_spared bay ask (Confirm row id want) e = cc
+device_spared bay ask (Put row id n cell) e = cc
+device_spared bay ask (Release row id n) e = cc
+device_spared bay ask Lose e = lose_spared bay bay.empty
+device_spared bay ask Fit e = fit_spared bay bay.empty
+
+row_there : (bay : Bay) (ask : Ask) (row : Option RowNo) → row_of ask.what ≡ row → uses_store bay ask ≡ true → IsSome (row_of ask.what)
+row_there bay ask None e u = absurd (let bad : true ≡ false = sym u ∙ device_spared bay ask ask.what e in cc)
+row_there bay ask (Some row) e u = rw e search rules
+
+read-is-no-put : (what : Request) → need what ≡ NeedRead → is_put what ≡ false
+read-is-no-put (Share row id want) e = refl
+read-is-no-put (Claim row id how mask want) e = refl
+read-is-no-put (Confirm row id want) e = refl
+read-is-no-put (Put row id n cell) e = cc
+read-is-no-put (Release row id n) e = refl
+read-is-no-put Lose e = refl
+read-is-no-put Fit e = refl
+
+-- what a verdict says, whatever the blocks
+pub verdict_shape : (bay : Bay) (ask : Ask) (verdict : Verdict) → verdict ≡ verdict_of bay ask → IsVerdict ask.what verdict
+verdict_shape bay ask (Say reply) e =
+    let said = said_by ask.what (rule bay ask true).reply reply _ refl (sym e) in
+    (ap (λ r. fits ask.what r) (sym said.1) ∙ replies_fit_lem bay ask true, ap (λ r. is_fault r) (sym said.1) ∙ said.0)
+verdict_shape bay ask NeedRead e = let needs = needs-read bay ask (sym e) in (read-is-no-put ask.what needs.1, row_there bay ask _ refl needs.0)
+verdict_shape bay ask NeedWrite e = write-is-put ask.what (needs-write bay ask (sym e)).1
+
+-- the same where the store doesn't tell its blocks: some blocks hold what was read
+pub served-untold : (slots : Table) (ask : Ask) (row : RowNo) (cell : Cell) → ((blocks : List (List ℕ)) → NeedRead ≡ verdict_of (with_blocks slots blocks) ask) →
+    row_of ask.what ≡ Some row → row.0 < length slots.slots → ((blocks : List (List ℕ)) → cell.lost ≡ lost_of (slot_of (with_blocks slots blocks) row).cell) →
+    Some cell ≡ served_cell (with_blocks slots (replicate (length slots.slots) cell.bytes)) ask
+served-untold slots ask row cell verdict is l lost =
+    let blocks = replicate (length slots.slots) cell.bytes in
+    served-read slots blocks ask row cell (sym (verdict blocks)) is l (sym (get_or-replicate (length slots.slots) row.0 cell.bytes [] l)) (lost blocks)
+
+pub applied-fits : (slots new : Table) (row : RowNo) (ask : Ask) (cell : Option Cell) (reply : Reply) → row_of ask.what ≡ Some row → ServedRow row ask cell slots reply new →
+    (blocks : List (List ℕ)) → cell ≡ served_cell (with_blocks slots blocks) ask → fits ask.what reply ≡ true
+applied-fits slots new row ask cell reply is served blocks h =
+    let bay = with_blocks slots blocks in
+    let said : reply ≡ (rule bay ask false).reply = applied-reply slots new row ask cell reply is served blocks h in
+    ap (λ r. fits ask.what r) said ∙ replies_fit_lem bay ask false

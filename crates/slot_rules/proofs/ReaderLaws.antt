@@ -75,7 +75,7 @@ by_step : (bay : Bay) (ask : Ask) (row : RowNo) (reply : Reply) (after : Bay) (r
     (note.id ≡ reader.id) ⊎ ((slot_of after row).readers ≡ [])
 by_step bay ask row reply after reader note (Touched at step e c) n f o = by_reply ask ask.what reply (slot_of bay row) (slot_of after row) reader note n f (step.note_comes note o) step.readers_stand
 by_step bay ask row reply after reader note (Passed same is e) n f o = absurd (let bad : None ≡ Some note = sym n ∙ (ap (λ (s : Slot). s.note) (sym same) ∙ o) in cc)
-by_step bay ask row reply after reader note (Bared k same is e l) n f o = inr (ap (λ (s : Slot). s.readers) same)
+by_step bay ask row reply after reader note (Bared k same is e z l) n f o = inr (ap (λ (s : Slot). s.readers) same)
 
 pub readers_hold_off_notes_lem : ReadersHoldOffNotes
 readers_hold_off_notes_lem bay ask fails row reader note l n f o = by_step bay ask row _ (rule bay ask fails).bay reader note (row_step bay ask fails row l) n f o

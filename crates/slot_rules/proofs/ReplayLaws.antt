@@ -22,8 +22,8 @@ use Rattle.slot_rules.specs.Slots.{Slot, Bay, first_bay, first_slot, slot_of}
 use Rattle.slot_rules.specs.Rules.{share_lock, share_order, share_by, share_at, share_rule, missing_floor, rule, rule_of}
 use Rattle.slot_rules.specs.Replay.{Replays}
 use Rattle.slot_rules.specs.Serving.{row_of}
-use Rattle.slot_rules.specs.Laws.{is_row, is_granted, NotesHoldOffShares, claimed_note, NoteComes, seized_of, Opens, SomeEntry, NotesHaveOrigins, with_some, read_number, write_number, read_in, written_in, reads_shown, writes_shown, CoversRead, CoversWrite, NumbersAreCovered}
-use Rattle.slot_rules.proofs.RowSteps.{RowStep, Touched, Passed, Bared, IsCapped, goes, capped, row_step}
+use Rattle.slot_rules.specs.Laws.{is_row, is_granted, NotesHoldOffShares, claimed_note, NoteComes, seized_of, Opens, SomeEntry, NotesHaveOrigins, with_some, read_number, write_number, read_in, written_in, reads_shown, writes_shown, CoversRead, CoversWrite, NumbersAreCovered, EmptyBaysAreBare}
+use Rattle.slot_rules.proofs.RowSteps.{RowStep, Touched, Passed, Bared, IsCapped, goes, capped, row_step, bare_run}
 
 -- Shares under an opened note
 held_off_lock : (bay : Bay) (slot : Slot) (ask : Ask) (id : Number) (want fails : Bool) (note : Note) (held : Option Note) (reader : Option Reader) → held ≡ Some note →
@@ -113,7 +113,7 @@ note_step : (bay : Bay) (row : RowNo) (ask : Ask) (reply : Reply) (after : Bay) 
     Opens row note.origin note.mask ask reply ⊎ NoteFrom bay row note
 note_step bay row ask reply after note (Touched at step e c) opened = note_comes bay row ask reply note at (step.note_comes note opened)
 note_step bay row ask reply after note (Passed same is e) opened = inr (stays bay row note (ap (λ (s : Slot). s.note) (sym same) ∙ opened))
-note_step bay row ask reply after note (Bared n same is e l) opened = absurd (let bad : None ≡ Some note = ap (λ (s : Slot). s.note) (sym same) ∙ opened in cc)
+note_step bay row ask reply after note (Bared n same is e z l) opened = absurd (let bad : None ≡ Some note = ap (λ (s : Slot). s.note) (sym same) ∙ opened in cc)
 
 -- the note of an entry, or from before it
 entry_note : (bay : Bay) (row : RowNo) (entry : Entry) (note : Note) → row.0 < length bay.slots → entry.reply ≡ (rule bay entry.ask (is_fault entry.reply)).reply →
@@ -171,12 +171,12 @@ notes_have_origins_lem mode rows patience entries bay clock row note l r opened 
 covers_read : (bay after : Bay) (row : RowNo) (ask : Ask) (reply : Reply) (n : Number) → bay.high.0 ≤ after.high.0 → RowStep bay ask row reply after → CoversRead bay row n → CoversRead after row n
 covers_read bay after row ask reply n up (Touched at step e c) h = (omega (arith, h.0), λ f. omega (arith, step.read_rises, h.1 (sym e ∙ f)))
 covers_read bay after row ask reply n up (Passed same is e) h = (omega (arith, h.0), λ f. subst (λ (s : Slot). n.0 ≤ s.read_no.0) (sym same) (h.1 (sym e ∙ f)))
-covers_read bay after row ask reply n up (Bared k same is e l) h = (omega (arith, h.0), λ f. subst (λ (s : Slot). n.0 ≤ s.read_no.0) (sym same) (rw (e f) h.0))
+covers_read bay after row ask reply n up (Bared k same is e z l) h = (omega (arith, h.0), λ f. subst (λ (s : Slot). n.0 ≤ s.read_no.0) (sym same) (rw (e f) h.0))
 
 covers_write : (bay after : Bay) (row : RowNo) (ask : Ask) (reply : Reply) (n : Number) → bay.high.0 ≤ after.high.0 → RowStep bay ask row reply after → CoversWrite bay row n → CoversWrite after row n
 covers_write bay after row ask reply n up (Touched at step e c) h = (omega (arith, h.0), λ f. omega (arith, step.write_rises, h.1 (sym e ∙ f)))
 covers_write bay after row ask reply n up (Passed same is e) h = (omega (arith, h.0), λ f. subst (λ (s : Slot). n.0 ≤ s.write_no.0) (sym same) (h.1 (sym e ∙ f)))
-covers_write bay after row ask reply n up (Bared k same is e l) h = (omega (arith, h.0), λ f. subst (λ (s : Slot). n.0 ≤ s.write_no.0) (sym same) (rw (e f) h.0))
+covers_write bay after row ask reply n up (Bared k same is e z l) h = (omega (arith, h.0), λ f. subst (λ (s : Slot). n.0 ≤ s.write_no.0) (sym same) (rw (e f) h.0))
 
 is_row-same : (row : RowNo) (at : Option RowNo) → at ≡ Some row → is_row row at ≡ true
 is_row-same row at e = rw e (grind (arith, nat_tests))
@@ -191,7 +191,7 @@ reads_now bay after row ask reply n c (Touched at step e k) h =
     (omega (arith, within, c.read), λ f. within)
 reads_now bay after row ask reply n c (Passed same is e) h =
     absurd (let bad : None ≡ Some n = sym (ap (λ b. if b then read_number bay.mode (slot_of bay row).note ask.what reply else None) is) ∙ h in cc)
-reads_now bay after row ask reply n c (Bared k same is e l) h =
+reads_now bay after row ask reply n c (Bared k same is e z l) h =
     absurd (let bad : None ≡ Some n = sym (ap (λ b. if b then read_number bay.mode (slot_of bay row).note ask.what reply else None) is) ∙ h in cc)
 
 writes_now : (bay after : Bay) (row : RowNo) (ask : Ask) (reply : Reply) (n : Number) → IsCapped after row → RowStep bay ask row reply after →
@@ -201,7 +201,7 @@ writes_now bay after row ask reply n c (Touched at step e k) h =
     let within = step.write_covered n shown in
     (omega (arith, within, c.write), λ f. within)
 writes_now bay after row ask reply n c (Passed same is e) h = absurd (let bad : None ≡ Some n = sym (ap (λ b. if b then write_number ask.what reply else None) is) ∙ h in cc)
-writes_now bay after row ask reply n c (Bared k same is e l) h = absurd (let bad : None ≡ Some n = sym (ap (λ b. if b then write_number ask.what reply else None) is) ∙ h in cc)
+writes_now bay after row ask reply n c (Bared k same is e z l) h = absurd (let bad : None ≡ Some n = sym (ap (λ b. if b then write_number ask.what reply else None) is) ∙ h in cc)
 
 reads_later : (bay : Bay) (clock : ℕ) (entries : List Entry) (bay' : Bay) (clock' : ℕ) (row : RowNo) (n : Number) → row.0 < length bay.slots →
     Replays bay clock entries bay' clock' → CoversRead bay row n → CoversRead bay' row n
@@ -265,3 +265,7 @@ numbers_are_covered_lem mode rows patience entries bay clock row l r =
     let here = first_rows mode rows patience row l in
     let c = first_capped mode rows patience row l in
     (reads_all first 0 entries bay clock row here c r, writes_all first 0 entries bay clock row here c r)
+
+pub empty_bays_are_bare_lem : EmptyBaysAreBare
+empty_bays_are_bare_lem mode rows patience entries bay clock row l r =
+    bare_run (first_bay mode rows patience) 0 entries bay clock row (first_rows mode rows patience row l) (λ h. absurd (let bad : false ≡ true = h in cc)) r

@@ -5,6 +5,8 @@ use Rattle.std.proofs.lemmas.List.{length-map, get_or-set_same, get_or-set_other
 use Rattle.std.proofs.lemmas.Bool.Decides.{nat_tests}
 use Rattle.raid_base.specs.declared.numbers.Number.{Number}
 use Rattle.raid_base.specs.declared.numbers.RowNo.{RowNo}
+use Rattle.raid_base.specs.declared.messages.How.{How}
+use Rattle.raid_base.specs.declared.messages.How.TheVariants.{Plain, Seize, Mend}
 use Rattle.raid_base.specs.declared.messages.Ask.{Ask}
 use Rattle.raid_base.specs.declared.messages.Entry.{Entry}
 use Rattle.raid_base.specs.declared.messages.Reply.{Reply}
@@ -45,7 +47,7 @@ slot_step bay ask fails Fit slot row e = cc
 pub data RowStep (bay : Bay) (ask : Ask) (row : RowNo) (reply : Reply) (after : Bay) : Type 0 where
   Touched : row_of ask.what ≡ Some row → IsStep bay.mode bay.life ask ask.what (slot_of bay row) reply (slot_of after row) → after.empty ≡ bay.empty → (IsCapped bay row → IsCapped after row) → RowStep bay ask row reply after
   Passed : slot_of after row ≡ slot_of bay row → is_row row (row_of ask.what) ≡ false → after.empty ≡ bay.empty → RowStep bay ask row reply after
-  Bared : (n : Number) → slot_of after row ≡ bare_slot n → is_row row (row_of ask.what) ≡ false → (after.empty ≡ false → n ≡ bay.high) → n.0 ≤ bay.high.0 → RowStep bay ask row reply after
+  Bared : (n : Number) → slot_of after row ≡ bare_slot n → is_row row (row_of ask.what) ≡ false → (after.empty ≡ false → n ≡ bay.high) → (after.empty ≡ true → n ≡ number 0) → n.0 ≤ bay.high.0 → RowStep bay ask row reply after
 
 slot_set-same : (bay : Bay) (row : RowNo) (old : Slot) (o : SlotOutcome) → row.0 < length bay.slots → slot_of (with_slot bay row old o).bay row ≡ o.slot
 slot_set-same bay row old o l = get_or-set_same bay.slots row.0 o.slot (bare_slot (number 0)) l
@@ -95,10 +97,10 @@ bare_there n (s ∷ slots) (suc row) d l = bare_there n slots row d (omega arith
 
 lose_step : (bay : Bay) (ask : Ask) (row : RowNo) (b : Bool) → bay.empty ≡ b → is_row row (row_of ask.what) ≡ false → row.0 < length bay.slots → RowStep bay ask row (lose_rule bay b).reply (lose_rule bay b).bay
 lose_step bay ask row true e i l = Passed refl i refl
-lose_step bay ask row false e i l = Bared (number 0) (bare_there (number 0) bay.slots row.0 (bare_slot (number 0)) l) i (λ h. absurd (let bad : true ≡ false = h in cc)) (omega arith)
+lose_step bay ask row false e i l = Bared (number 0) (bare_there (number 0) bay.slots row.0 (bare_slot (number 0)) l) i (λ h. absurd (let bad : true ≡ false = h in cc)) (λ h. refl) (omega arith)
 
 fit_step : (bay : Bay) (ask : Ask) (row : RowNo) (b : Bool) → bay.empty ≡ b → is_row row (row_of ask.what) ≡ false → row.0 < length bay.slots → RowStep bay ask row (fit_rule bay b).reply (fit_rule bay b).bay
-fit_step bay ask row true e i l = Bared bay.high (bare_there bay.high bay.slots row.0 (bare_slot (number 0)) l) i (λ h. refl) (omega arith)
+fit_step bay ask row true e i l = Bared bay.high (bare_there bay.high bay.slots row.0 (bare_slot (number 0)) l) i (λ h. refl) (λ h. absurd (let bad : false ≡ true = h in cc)) (omega arith)
 fit_step bay ask row false e i l = Passed refl i refl
 
 row_step-what : (bay : Bay) (ask : Ask) (fails : Bool) (row : RowNo) (what : Request) → ask.what ≡ what → row.0 < length bay.slots →
@@ -171,7 +173,7 @@ capped_by bay ask row reply after up c (Passed same is e) = record {
   read = subst (λ (x : Slot). x.read_no.0 ≤ after.high.0) (sym same) (omega (arith, c.read));
   write = subst (λ (x : Slot). x.write_no.0 ≤ after.high.0) (sym same) (omega (arith, c.write));
 }
-capped_by bay ask row reply after up c (Bared n same is e l) = record {
+capped_by bay ask row reply after up c (Bared n same is e z l) = record {
   read = subst (λ (x : Slot). x.read_no.0 ≤ after.high.0) (sym same) (omega arith);
   write = subst (λ (x : Slot). x.write_no.0 ≤ after.high.0) (sym same) (omega arith);
 }
@@ -213,3 +215,41 @@ lives_lem bay ask fails clock between bay' clock' ask' fails' life life' h r h' 
     let step = (goes bay ask fails).life in
     let later = life_after (rule bay ask fails).bay clock between bay' clock' r in
     omega (arith, shown.0, shown.1, shown'.0, step, later)
+
+claim_stays : (how : How) (bay : Bay) (ask : Ask) (fails : Bool) (id : Number) (mask : ℕ) (want : Bool) → bay.empty ≡ true →
+    (claim_rule how bay (bare_slot (number 0)) ask id mask want fails).slot ≡ bare_slot (number 0)
+claim_stays Plain bay ask fails id mask want e = rw e refl
+claim_stays Mend bay ask fails id mask want e = rw e refl
+claim_stays Seize bay ask fails id mask want e = rw e refl
+
+-- what stands on a lost device stays so
+bare_stays : (bay : Bay) (ask : Ask) (fails : Bool) (what : Request) → bay.empty ≡ true → (slot_rule bay (bare_slot (number 0)) ask fails what).slot ≡ bare_slot (number 0)
+bare_stays bay ask fails (Share r id want) e = rw e refl
+bare_stays bay ask fails (Claim r id how mask want) e = claim_stays how bay ask fails id mask want e
+bare_stays bay ask fails (Confirm r id want) e = rw e refl
+bare_stays bay ask fails (Put r id n cell) e = refl
+bare_stays bay ask fails (Release r id n) e = refl
+bare_stays bay ask fails Lose e = refl
+bare_stays bay ask fails Fit e = refl
+
+bare_by : (bay : Bay) (ask : Ask) (fails : Bool) (row : RowNo) (reply : Reply) → row.0 < length bay.slots → (bay.empty ≡ true → slot_of bay row ≡ bare_slot (number 0)) →
+    RowStep bay ask row reply (rule bay ask fails).bay → (rule bay ask fails).bay.empty ≡ true → slot_of (rule bay ask fails).bay row ≡ bare_slot (number 0)
+bare_by bay ask fails row reply l h (Touched at step e c) f =
+    let there = rule_of-row bay ask fails ask.what row at in
+    let o = slot_rule bay (slot_of bay row) ask fails ask.what in
+    let was : bay.empty ≡ true = sym e ∙ f in
+    ap (λ (x : Outcome). slot_of x.bay row) there
+    ∙ slot_set-same bay row (slot_of bay row) o l
+    ∙ ap (λ (s : Slot). (slot_rule bay s ask fails ask.what).slot) (h was)
+    ∙ bare_stays bay ask fails ask.what was
+bare_by bay ask fails row reply l h (Passed same is e) f = same ∙ h (sym e ∙ f)
+bare_by bay ask fails row reply l h (Bared n same is e z k) f = same ∙ ap (λ (m : Number). bare_slot m) (z f)
+
+pub bare_run : (bay : Bay) (clock : ℕ) (entries : List Entry) (bay' : Bay) (clock' : ℕ) (row : RowNo) → row.0 < length bay.slots → (bay.empty ≡ true → slot_of bay row ≡ bare_slot (number 0)) →
+    Replays bay clock entries bay' clock' → bay'.empty ≡ true → slot_of bay' row ≡ bare_slot (number 0)
+bare_run bay clock [] bay' clock' row l h r = subst (λ (b : Bay). b.empty ≡ true → slot_of b row ≡ bare_slot (number 0)) r.0 h
+bare_run bay clock (entry ∷ entries) bay' clock' row l h r =
+    let fails = is_fault entry.reply in
+    let next = (rule bay entry.ask fails).bay in
+    let rows = (goes bay entry.ask fails).rows in
+    bare_run next entry.clock entries bay' clock' row (omega (arith, rows)) (bare_by bay entry.ask fails row _ l h (row_step bay entry.ask fails row l)) r.2

@@ -13,7 +13,7 @@ use Rattle.slot_rules.specs.declared.slot.SlotState.{SlotState}
 use Rattle.slot_rules.specs.Slots.{Slot, Bay}
 use Rattle.slot_rules.specs.Rules.{SlotOutcome, keeps, reads, wanted_cell, missing_floor, note_id, share_at, claim_at, confirm_missing}
 use Rattle.slot_rules.specs.Tables.{bay_of, with_block}
-use Rattle.slot_rules.specs.Serving.{RefusesShareBy, RefusesShare, RefusesClaimThere, RefusesClaim, RefusesConfirm, Served}
+use Rattle.slot_rules.specs.Parts.{RefusesShareBy, RefusesShare, RefusesClaimThere, RefusesClaim, RefusesConfirm, Served}
 
 -- the floor of a missing slot, whatever the other slots and its block
 abbrev pub FloorIs : BayState → SlotState → Option Number → Type 0

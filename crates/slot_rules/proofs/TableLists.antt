@@ -1,5 +1,5 @@
 -- Slots and their blocks, row by row.
-use Rattle.std.proofs.Common.{◌≡◌, ℕ, zero, suc, ◌<◌, List, [], ◌∷◌, length, map, replicate, slice_index_or, slice_set, refl, ap, ◌∙◌, arith}
+use Rattle.std.proofs.Common.{◌≡◌, ℕ, zero, suc, ◌<◌, List, [], ◌∷◌, length, map, replicate, take, slice_index_or, slice_set, refl, ap, ◌∙◌, arith}
 use Rattle.raid_base.specs.declared.numbers.Number.{Number}
 use Rattle.raid_base.specs.Cells.{zeros}
 use Rattle.slot_rules.specs.declared.slot.SlotState.{SlotState}
@@ -38,9 +38,20 @@ slots-bare n [] blocks = refl
 slots-bare n (slot ∷ slots) [] = ap (λ t. bare_slot n ∷ t) (slots-bare n slots [])
 slots-bare n (slot ∷ slots) (block ∷ blocks) = ap (λ t. bare_slot n ∷ t) (slots-bare n slots blocks)
 
-pub slots-first : (n : ℕ) → slots_with (replicate n first_kept) (replicate n zeros) ≡ replicate n first_slot
-slots-first zero = refl
-slots-first (suc n) = ap (λ t. first_slot ∷ t) (slots-first n)
+slots-first_more : (n : ℕ) (block : List ℕ) (blocks : List (List ℕ)) → block ≡ zeros → slots_with (replicate n first_kept) blocks ≡ replicate n first_slot →
+    slots_with (replicate (suc n) first_kept) (block ∷ blocks) ≡ replicate (suc n) first_slot
+slots-first_more n block blocks z rest =
+    ap (λ (b : List ℕ). with_block first_kept b ∷ slots_with (replicate n first_kept) blocks) z ∙ ap (λ t. first_slot ∷ t) rest
+
+-- the slots at the start, where the first blocks are zeros
+pub slots-first : (n : ℕ) (blocks : List (List ℕ)) → take n blocks ≡ replicate n zeros → slots_with (replicate n first_kept) blocks ≡ replicate n first_slot
+slots-first zero blocks e = refl
+slots-first (suc n) [] e = absurd (let bad : [] ≡ zeros ∷ replicate n zeros = e in cc)
+slots-first (suc n) (block ∷ blocks) e =
+    let all : block ∷ take n blocks ≡ zeros ∷ replicate n zeros = e in
+    let first : block ≡ zeros = cc in
+    let rest : take n blocks ≡ replicate n zeros = cc in
+    slots-first_more n block blocks first (slots-first n blocks rest)
 
 -- a list that has the same at each place
 pub all_same : (b : SlotState) (xs ys : List SlotState) (d : SlotState) → length ys ≡ length xs →

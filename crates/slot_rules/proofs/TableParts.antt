@@ -16,7 +16,8 @@ use Rattle.slot_rules.specs.declared.slot.Verdict.{Verdict}
 use Rattle.slot_rules.specs.Slots.{Slot, Bay, bare_slot, slot_of}
 use Rattle.slot_rules.specs.Rules.{Outcome, raised, note_id, put_rule, share_rule, claim_rule, confirm_rule, release_rule, with_slot, lose_rule, fit_rule, rule_of, rule}
 use Rattle.slot_rules.specs.Tables.{Table, bay_of, with_block, slots_with, with_blocks, bare_kept, lost_of}
-use Rattle.slot_rules.specs.Serving.{row_of, slot_rule, verdict_for, verdict_of, needed_cell, cell_at, served_cell, block_after, blocks_after, ServedSlot, ServedRow, device_after}
+use Rattle.slot_rules.specs.Serving.{row_of, slot_rule, verdict_for, verdict_of, needed_cell, cell_at, served_cell, blocks_after}
+use Rattle.slot_rules.specs.Parts.{block_after, ServedSlot, ServedRow, device_after}
 use Rattle.slot_rules.proofs.TableLists.{slot-there, slots-set, slots-bare}
 
 -- the slot of a row
@@ -128,6 +129,15 @@ blocks-row (Put r id n new) row (Some cell) blocks e = let same : r ≡ row = cc
 blocks-row (Release r id n) row cell blocks e = sym (set-get_or blocks row.0 [])
 blocks-row Lose row cell blocks e = cc
 blocks-row Fit row cell blocks e = cc
+
+pub applied-reply : (table new : Table) (row : RowNo) (ask : Ask) (cell : Option Cell) (reply : Reply) → row_of ask.what ≡ Some row → ServedRow row ask cell table reply new →
+    (blocks : List (List ℕ)) → cell ≡ served_cell (with_blocks table blocks) ask → reply ≡ (rule (with_blocks table blocks) ask false).reply
+applied-reply table new row ask cell reply is served blocks h =
+    let bay = with_blocks table blocks in
+    let needs : cell ≡ (if is_fault (slot_rule bay (slot_of bay row) ask true ask.what).reply then needed_cell ask.what (slot_of bay row).cell else None) =
+    h ∙ ap (λ (o : Outcome). if is_fault o.reply then needed_cell ask.what (cell_at bay (row_of ask.what)) else None) (rule_of-row bay ask true ask.what row is)
+    ∙ ap (λ r. if is_fault (slot_rule bay (slot_of bay row) ask true ask.what).reply then needed_cell ask.what (cell_at bay r) else None) is in
+    (served blocks needs).0 ∙ ap (λ (o : Outcome). o.reply) (sym (rule_of-row bay ask false ask.what row is))
 
 pub applied-row : (table new : Table) (row : RowNo) (ask : Ask) (cell : Option Cell) (reply : Reply) → row_of ask.what ≡ Some row → ServedRow row ask cell table reply new →
     (blocks : List (List ℕ)) → length table.slots ≤ length blocks → cell ≡ served_cell (with_blocks table blocks) ask →

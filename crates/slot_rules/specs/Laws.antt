@@ -17,7 +17,8 @@ use Rattle.raid_base.specs.declared.messages.Entry.{Entry}
 use Rattle.raid_base.specs.Fits.{fits}
 use Rattle.raid_base.specs.Replies.{is_fault}
 use Rattle.slot_rules.specs.declared.Reader.{Reader}
-use Rattle.slot_rules.specs.Slots.{Slot, Bay, first_bay, slot_of}
+use Rattle.raid_base.specs.Numbers.{number}
+use Rattle.slot_rules.specs.Slots.{Slot, Bay, first_bay, bare_slot, slot_of}
 use Rattle.slot_rules.specs.Replay.{Replays}
 use Rattle.slot_rules.specs.Serving.{row_of}
 use Rattle.slot_rules.specs.Rules.{note_id, is_reader, rule}
@@ -26,6 +27,7 @@ use Rattle.slot_rules.specs.Rules.{note_id, is_reader, rule}
 abbrev pub RepliesFit : Type 0
 RepliesFit = (bay : Bay) (ask : Ask) (fails : Bool) → fits ask.what (rule bay ask fails).reply ≡ true
 
+-- whether a reply refuses
 abbrev pub is_refused : Reply → Bool
 is_refused (Busy holder) = true
 is_refused (Late above) = true
@@ -66,9 +68,11 @@ pub record FaultsComeOfTheStore (bay : Bay) (ask : Ask) : Type 0 where
   pub failed : uses_store bay ask ≡ true → rule bay ask true ≡ record { reply = Fault; bay = bay }
   pub spared : uses_store bay ask ≡ false → rule bay ask true ≡ rule bay ask false
 
+-- this holds of every bay and every ask
 abbrev pub FaultsComeOfStores : Type 0
 FaultsComeOfStores = (bay : Bay) (ask : Ask) → FaultsComeOfTheStore bay ask
 
+-- whether a reply grants
 abbrev pub is_granted : Reply → Bool
 is_granted (Granted cell read_no write_no last life seized) = true
 is_granted _ = false
@@ -92,24 +96,28 @@ abbrev pub order_read : Mode → Number → Option Number
 order_read Order id = Some id
 order_read Lock id = None
 
+-- the number under which a granted request reads
 abbrev pub granted_read : Request → Mode → Option Number
 granted_read (Share row id want) mode = order_read mode id
 granted_read _ mode = None
 
+-- the number under which a release reads that was done: none where it was of a note
 abbrev pub released_read : Request → Option Note → Option Number
-released_read (Release row id n) note = if note_id note id then None else n
-released_read _ note = None
+released_read (Release row id n) open_note = if note_id open_note id then None else n
+released_read _ open_note = None
 
+-- the number under which a slot was read, by the note that was open before
 abbrev pub read_number : Mode → Option Note → Request → Reply → Option Number
-read_number mode note what (Granted cell read_no write_no last life seized) = granted_read what mode
-read_number mode note what Done = released_read what note
-read_number mode note what _ = None
+read_number mode open_note what (Granted cell read_no write_no last life seized) = granted_read what mode
+read_number mode open_note what Done = released_read what open_note
+read_number mode open_note what _ = None
 
 -- the number under which a slot was written
 abbrev pub put_number : Request → Option Number
 put_number (Put row id n cell) = Some n
 put_number _ = None
 
+-- the number under which a slot was written
 abbrev pub write_number : Request → Reply → Option Number
 write_number what Done = put_number what
 write_number what _ = None
@@ -124,6 +132,7 @@ abbrev pub GrantedNote : Ask → Request → Option Note → Option Note → Not
 GrantedNote ask (Claim row id how mask want) seized old note = (note ≡ claimed_note ask id mask seized) × (seized ≡ old)
 GrantedNote ask _ seized old note = old ≡ Some note
 
+-- the same for every reply
 abbrev pub NoteComes : Ask → Request → Reply → Option Note → Note → Type 0
 NoteComes ask what (Granted cell read_no write_no last life seized) old note = GrantedNote ask what seized old note
 NoteComes ask what _ old note = old ≡ Some note
@@ -134,6 +143,7 @@ ClaimReaders Plain id slot left = find (λ reader. not (is_reader id reader)) sl
 ClaimReaders Mend id slot left = find (λ reader. not (is_reader id reader)) slot.readers ≡ None
 ClaimReaders Seize id slot left = left.readers ≡ []
 
+-- the same for every granted request
 abbrev pub GrantedReaders : Request → Slot → Slot → Type 0
 GrantedReaders (Claim row id how mask want) slot left = ClaimReaders how id slot left
 GrantedReaders _ slot left = Unit {0}
@@ -143,6 +153,7 @@ abbrev pub DoneReaders : Request → Slot → Type 0
 DoneReaders (Release row id n) slot = (note_id slot.note id || is_some (find (is_reader id) slot.readers)) ≡ true
 DoneReaders _ slot = Unit {0}
 
+-- the same for every reply
 abbrev pub ReadersStand : Request → Reply → Slot → Slot → Type 0
 ReadersStand what (Granted cell read_no write_no last life seized) slot left = GrantedReaders what slot left
 ReadersStand what Done slot left = DoneReaders what slot
@@ -174,6 +185,7 @@ abbrev pub loses : Bay → Request → ℕ
 loses bay Lose = if bay.empty then 0 else 1
 loses bay _ = 0
 
+-- the same for a run of entries
 abbrev pub losses : Bay → List Entry → ℕ
 losses bay [] = 0
 losses bay (entry ∷ entries) = loses bay entry.ask.what + losses (rule bay entry.ask (is_fault entry.reply)).bay entries
@@ -186,17 +198,19 @@ LivesTellLosses =
     shown_life (rule bay ask fails).reply ≡ Some life → Replays (rule bay ask fails).bay clock between bay' clock' →
     shown_life (rule bay' ask' fails').reply ≡ Some life' → life' ≡ life + losses (rule bay ask fails).bay between
 
--- an entry by which a note was opened that has come to be this one: a granted claim that seized none, with the note's origin as its id, and the note's mask
+-- the note that a grant seized
 abbrev pub seized_of : Reply → Option (Option Note)
 seized_of (Granted cell read_no write_no last life seized) = Some seized
 seized_of _ = None
 
+-- a granted claim of this row that seized no note, with this id and mask
 pub record Opens (row : RowNo) (origin : Number) (mask : ℕ) (ask : Ask) (reply : Reply) : Type 0 where
   pub how : How
   pub want : Bool
   pub asked : ask.what ≡ Claim row origin how mask want
   pub granted : seized_of reply ≡ Some None
 
+-- it holds of some entry
 abbrev pub SomeEntry : (Entry → Type 0) → List Entry → Type 0
 SomeEntry P [] = ⊥
 SomeEntry P (entry ∷ entries) = P entry ⊎ SomeEntry P entries
@@ -213,17 +227,21 @@ abbrev pub with_some : Option Number → List Number → List Number
 with_some None numbers = numbers
 with_some (Some n) numbers = n ∷ numbers
 
+-- the number under which a row was read
 abbrev pub read_in : RowNo → Bay → Request → Reply → Option Number
 read_in row bay what reply = if is_row row (row_of what) then read_number bay.mode (slot_of bay row).note what reply else None
 
+-- the number under which a row was written
 abbrev pub written_in : RowNo → Request → Reply → Option Number
 written_in row what reply = if is_row row (row_of what) then write_number what reply else None
 
+-- the numbers under which a row was read in a run of entries, the first of them first
 abbrev pub reads_shown : RowNo → Bay → List Entry → List Number
 reads_shown row bay [] = []
 reads_shown row bay (entry ∷ entries) =
     with_some (read_in row bay entry.ask.what entry.reply) (reads_shown row (rule bay entry.ask (is_fault entry.reply)).bay entries)
 
+-- the same for writes
 abbrev pub writes_shown : RowNo → List Entry → List Number
 writes_shown row [] = []
 writes_shown row (entry ∷ entries) = with_some (written_in row entry.ask.what entry.reply) (writes_shown row entries)
@@ -232,9 +250,11 @@ writes_shown row (entry ∷ entries) = with_some (written_in row entry.ask.what 
 abbrev pub CoversRead : Bay → RowNo → Number → Type 0
 CoversRead bay row n = (n.0 ≤ bay.high.0) × (bay.empty ≡ false → n.0 ≤ (slot_of bay row).read_no.0)
 
+-- the same for the number of a write
 abbrev pub CoversWrite : Bay → RowNo → Number → Type 0
 CoversWrite bay row n = (n.0 ≤ bay.high.0) × (bay.empty ≡ false → n.0 ≤ (slot_of bay row).write_no.0)
 
+-- every number under which a row was read or written is covered
 abbrev pub NumbersAreCovered : Type 0
 NumbersAreCovered =
     (mode : Mode) (rows patience : ℕ) (entries : List Entry) (bay : Bay) (clock : ℕ) (row : RowNo) → row.0 < rows →
@@ -256,3 +276,9 @@ ReleasesFindHolders =
     (bay : Bay) (ask : Ask) (fails : Bool) (row : RowNo) (id : Number) (n : Option Number) → row.0 < length bay.slots →
     ask.what ≡ Release row id n → (rule bay ask fails).reply ≡ Done →
     (note_id (slot_of bay row).note id || is_some (find (is_reader id) (slot_of bay row).readers)) ≡ true
+
+-- a bay without a device has only blank slots, and nothing stands on them
+abbrev pub EmptyBaysAreBare : Type 0
+EmptyBaysAreBare =
+    (mode : Mode) (rows patience : ℕ) (entries : List Entry) (bay : Bay) (clock : ℕ) (row : RowNo) → row.0 < rows →
+    Replays (first_bay mode rows patience) 0 entries bay clock → bay.empty ≡ true → slot_of bay row ≡ bare_slot (number 0)

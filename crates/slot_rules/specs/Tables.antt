@@ -25,6 +25,7 @@ abbrev pub cell_of : Option ℕ → List ℕ → Option Cell
 cell_of None block = None
 cell_of (Some lost) block = Some (record { bytes = block; lost = lost })
 
+-- the slot with its block
 abbrev pub with_block : SlotState → List ℕ → Slot
 with_block slot block =
     record { cell = cell_of slot.mark block; read_no = slot.read_no; write_no = slot.write_no; last = slot.last; note = slot.note; readers = slot.readers }
@@ -35,6 +36,7 @@ slots_with [] blocks = []
 slots_with (slot ∷ slots) [] = with_block slot [] ∷ slots_with slots []
 slots_with (slot ∷ slots) (block ∷ blocks) = with_block slot block ∷ slots_with slots blocks
 
+-- the bay of this state with these slots
 abbrev pub bay_of : BayState → List Slot → Bay
 bay_of state slots = record { mode = state.mode; patience = state.patience; empty = state.empty; high = state.high; life = state.life; slots = slots }
 
@@ -42,6 +44,7 @@ bay_of state slots = record { mode = state.mode; patience = state.patience; empt
 abbrev pub with_blocks : Table → List (List ℕ) → Bay
 with_blocks table blocks = bay_of table.state (slots_with table.slots blocks)
 
+-- the lost of a cell, 0 where there is none
 abbrev pub lost_of : Option Cell → ℕ
 lost_of None = 0
 lost_of (Some cell) = cell.lost

@@ -1,7 +1,7 @@
 //! What holds of every bay and every ask, and of every run of asks from the start.
 //!
 //! Each law is what an empty function ensures. Who stands on one calls it.
-ghost use Rattle.slot_rules.specs.Laws.{RepliesFit, RefusalsLeaveTheBay, FaultsComeOfStores, SlotsStep, NotesHoldOffShares, LivesTellLosses, NotesHaveOrigins, NumbersAreCovered, ReadersHoldOffNotes, ReleasesFindHolders};
+ghost use Rattle.slot_rules.specs.Laws.{RepliesFit, RefusalsLeaveTheBay, FaultsComeOfStores, SlotsStep, NotesHoldOffShares, LivesTellLosses, NotesHaveOrigins, NumbersAreCovered, ReadersHoldOffNotes, ReleasesFindHolders, EmptyBaysAreBare};
 
 /// The reply always fits the request.
 pub fn replies_fit()
@@ -53,4 +53,9 @@ pub fn readers_hold_off_notes()
 /// A release that was done found a note or a reader of its id.
 pub fn releases_find_holders()
     ensures { ReleasesFindHolders }
+{}
+
+/// A bay without a device has only blank slots, and nothing stands on them.
+pub fn empty_bays_are_bare()
+    ensures { EmptyBaysAreBare }
 {}

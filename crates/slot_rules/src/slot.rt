@@ -47,7 +47,8 @@ pub struct SlotState {
 
 impl SlotState {
     ghost use Rattle.slot_rules.specs.Tables.{first_kept, bare_kept};
-    ghost use Rattle.slot_rules.specs.Serving.{ServedSlot, row_of};
+    ghost use Rattle.slot_rules.specs.Serving.{row_of};
+    ghost use Rattle.slot_rules.specs.Parts.{ServedSlot};
     ghost use Rattle.std.specs.Prelude.{◌≡◌, ◌<◌, ◌&&◌, List, ℕ, Bool, Option, true, false, None, Some, is_some, IsTrue, find, if◌then◌else◌};
     ghost use Rattle.raid_base.specs.declared.messages.Ask.{Ask};
     ghost use Rattle.raid_base.specs.declared.numbers.Number.{Number};
@@ -57,7 +58,8 @@ impl SlotState {
     ghost use Rattle.slot_rules.specs.Slots.{Slot};
     ghost use Rattle.slot_rules.specs.Rules.{missing_floor, is_same_host, is_late, note_id, is_reader, with_reader, share_rule, claim_rule, seize_rule, confirm_rule, put_rule, release_rule};
     ghost use Rattle.slot_rules.specs.Tables.{bay_of, with_block};
-    ghost use Rattle.slot_rules.specs.Serving.{RefusesShareBy, RefusesShare, RefusesClaimThere, RefusesClaim, RefusesSeize, RefusesConfirm, is_refusal, verdict_after, verdict_for, slot_rule, Served};
+    ghost use Rattle.slot_rules.specs.Serving.{verdict_for, slot_rule};
+    ghost use Rattle.slot_rules.specs.Parts.{RefusesShareBy, RefusesShare, RefusesClaimThere, RefusesClaim, RefusesSeize, RefusesConfirm, is_refusal, verdict_after, Served};
 
     /// A slot at the start: zeros, and nothing lost.
     pub fn first() -> SlotState

@@ -1,7 +1,8 @@
 //! The slots of one bay.
 ghost use Rattle.std.specs.Prelude.{◌≡◌, map};
 ghost use Rattle.slot_rules.specs.Tables.{bare_kept};
-ghost use Rattle.slot_rules.specs.Serving.{row_of, device_reply};
+ghost use Rattle.slot_rules.specs.Serving.{row_of};
+ghost use Rattle.slot_rules.specs.Parts.{device_reply};
 
 use crate::slot::{BayState, SlotState, Verdict, raised};
 use raid_base::{Ask, Cell, Mode, NoMemory, Note, Number, Reply, Request, RowNo};
@@ -44,7 +45,7 @@ fn strip_all(slots: &mut [SlotState], number: Number)
 }
 
 /// The slots of one bay, all but their blocks.
-#[derive(Drop)]
+#[derive(Debug, Drop)]
 pub struct Slots {
     state: BayState,
     slots: Vec<SlotState>,
@@ -59,16 +60,18 @@ impl Model for Slots {
 }
 
 impl Slots {
-    ghost use Rattle.std.specs.Prelude.{◌≡◌, ◌≤◌, ◌<◌, ◌-◌, ◌^◌, ℕ, List, IfOk, IfSome, length, replicate, false, is_none};
+    ghost use Rattle.std.specs.Prelude.{◌≡◌, ◌≤◌, ◌<◌, ◌-◌, ◌^◌, ℕ, List, IfOk, IfSome, length, replicate, take, true, false, is_none};
     ghost use Rattle.raid_base.specs.Cells.{zeros};
+    ghost use Rattle.raid_base.specs.Fits.{fits};
     ghost use Rattle.slot_rules.specs.Slots.{first_bay, slot_of};
     ghost use Rattle.slot_rules.specs.Rules.{rule};
     ghost use Rattle.slot_rules.specs.Tables.{with_blocks, lost_of};
-    ghost use Rattle.slot_rules.specs.Serving.{IsAskFor, verdict_of, served_cell, blocks_after, row_of, ServedRow, table_lost, table_fitted, device_reply, device_after};
+    ghost use Rattle.slot_rules.specs.Serving.{IsAskFor, IsVerdict, verdict_of, served_cell, blocks_after, row_of};
+    ghost use Rattle.slot_rules.specs.Parts.{ServedRow, table_lost, table_fitted, device_reply, device_after};
 
-    /// The slots at the start, over blocks of zeros: none is blank, and all numbers are 0. All memory is taken here.
+    /// The slots at the start, over a store whose first blocks are zeros: none is blank, and all numbers are 0. All memory is taken here.
     pub fn make(alloc: Global, mode: Mode, rows: u16, patience: u64) -> Result<Slots, NoMemory>
-        ensures first { IfOk result (λ slots. with_blocks slots (replicate rows zeros) ≡ first_bay mode rows patience) }
+        ensures first { IfOk result (λ slots. (blocks : List (List ℕ)) → take rows blocks ≡ replicate rows zeros → with_blocks slots blocks ≡ first_bay mode rows patience) }
         ensures rows { IfOk result (λ slots. length slots.slots ≡ rows) }
     {
         let mut slots = Vec::with_capacity(alloc, usize::from(rows)).map_err(|_| NoMemory)?;
@@ -90,6 +93,13 @@ impl Slots {
         ensures { result ≡ length self.now.slots }
     {
         self.slots.len()
+    }
+
+    /// How requests are ordered.
+    pub fn mode(&self) -> Mode
+        ensures { result ≡ self.now.state.mode }
+    {
+        self.state.mode
     }
 
     /// Whether the device is lost and no other is fitted.
@@ -135,7 +145,8 @@ impl Slots {
     /// The verdict is the same whatever the blocks.
     pub fn judge(&self, ask: &Ask) -> Verdict
         requires { IsAskFor (length self.now.slots) ask.now }
-        ensures { (blocks : List (List ℕ)) → result ≡ verdict_of (with_blocks self.now blocks) ask.now }
+        ensures verdict { (blocks : List (List ℕ)) → result ≡ verdict_of (with_blocks self.now blocks) ask.now }
+        ensures shape { IsVerdict ask.now.what result }
     {
         match row_of(ask.what) {
             Some(row) => {
@@ -153,6 +164,7 @@ impl Slots {
         requires life { ask.now.what ≡ Request.Lose → self.old.state.life < 2 ^ 32 - 1 }
         ensures reply { (blocks : List (List ℕ)) → cell ≡ served_cell (with_blocks self.old blocks) ask.now → result ≡ (rule (with_blocks self.old blocks) ask.now false).reply }
         ensures bay { (blocks : List (List ℕ)) → length self.old.slots ≤ length blocks → cell ≡ served_cell (with_blocks self.old blocks) ask.now → with_blocks self.new (blocks_after ask.now.what cell blocks) ≡ (rule (with_blocks self.old blocks) ask.now false).bay }
+        ensures fits { (blocks : List (List ℕ)) → cell ≡ served_cell (with_blocks self.old blocks) ask.now → fits ask.now.what result ≡ true }
         ensures rows { length self.new.slots ≡ length self.old.slots }
     {
         match row_of(ask.what) {

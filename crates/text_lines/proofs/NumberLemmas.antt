@@ -1,4 +1,5 @@
 -- Numbers and their text.
+use Rattle.std.specs.Prelude.{◌↔◌, ◌++◌, IsSome, IfSome, Option, Some, None, refl}
 use Rattle.std.proofs.Common.{◌≡◌, ℕ, ◌+◌, ◌-◌, ◌*◌, ◌^◌, ◌<◌, ◌≤◌, min, Bool, true, List, length, take, get_or, sym, ◌∙◌, arith, rules, decimal, ap, ◌⊎◌, inl, inr, ◌≢◌, false, lit<, leb, eqb, ◌&&◌, ◌||◌, not}
 use Rattle.std.specs.List.{list_all}
 use Rattle.std.specs.Int.{IsInRange}
@@ -73,3 +74,8 @@ read_of_text text n m e l is =
 
 pub not_of_text : (text : List ℕ) (m : ℕ) → false ≡ is_number text → m < 2 ^ 64 → text ≡ decimal m → ⊥
 not_of_text text m h l is = let no : false ≡ true = h ∙ ap is_number is ∙ is_number-decimal m l in cc
+
+-- a number that was read behind a label
+pub labelled : (r : Option ℕ) (line label digits : List ℕ) → IsSome r ↔ IsNumber digits → IfSome r (λ n. n ≡ min (number_of digits) (2 ^ 64 - 1)) → line ≡ label ++ digits → IfSome r (λ n. (x : List ℕ) × IsNumber x × (line ≡ label ++ x) × (n ≡ min (number_of x) (2 ^ 64 - 1)))
+labelled None line label digits some value is = tt
+labelled (Some n) line label digits some value is = (digits, some.0 refl, is, value)

@@ -1,7 +1,7 @@
 -- Which rows are held.
-use Rattle.std.proofs.Common.{◌≡◌, ◌≢◌, ◌∙◌, sym, ap, refl, subst, ℕ, ◌+◌, ◌<◌, ◌⊎◌, inl, inr, arith, eqb, Bool, true, false, cond, ◌||◌, List, [], ◌∷◌, ◌++◌, length, take, drop, get_or, Some, None, append_assoc, All}
-use Rattle.std.proofs.lemmas.Bool.{eq-eqb, ne_eqb, eqb-true, or_cases, or_parts}
-use Rattle.std.proofs.lemmas.List.{take_more, drop_more, append-nil, map-append}
+use Rattle.std.proofs.Common.{◌≡◌, ◌∙◌, sym, ap, refl, subst, ℕ, ◌<◌, ◌⊎◌, inl, inr, arith, eqb, Bool, true, false, cond, ◌||◌, List, [], ◌∷◌, ◌++◌, Some, None, append_assoc, All}
+use Rattle.std.proofs.lemmas.Bool.{eqb-true, or_cases, or_parts}
+use Rattle.std.proofs.lemmas.List.{append-nil}
 use Rattle.std.proofs.lemmas.List.Folds.{list_any-append}
 use Rattle.std.proofs.lemmas.List.Elements.{All-head, All-tail}
 use Rattle.std.proofs.lemmas.Map.Keys.{IsDistinct-push}
@@ -16,28 +16,6 @@ held-append xs ys k = list_any-append (eqb k) xs ys
 pub or_false : (b : Bool) → (b || false) ≡ b
 or_false true = refl
 or_false false = refl
-
-or_true : (b : Bool) → (b || true) ≡ true
-or_true true = refl
-or_true false = refl
-
--- one more row, which is this one
-pub held-push_same : (xs : List ℕ) (k r : ℕ) → k ≡ r → is_held (xs ++ r ∷ []) k ≡ true
-held-push_same xs k r e = held-append xs (r ∷ []) k ∙ ap (λ b. is_held xs k || (b || false)) (eq-eqb k r e) ∙ or_true (is_held xs k)
-
--- and which is another
-pub held-push_other : (xs : List ℕ) (k r : ℕ) → k ≢ r → is_held (xs ++ r ∷ []) k ≡ is_held xs k
-held-push_other xs k r ne = held-append xs (r ∷ []) k ∙ ap (λ b. is_held xs k || (b || false)) (ne_eqb k r ne) ∙ or_false (is_held xs k)
-
--- the numbers of one row more
-pub numbers-more : (rows : List RowNo) (i : ℕ) (row : RowNo) → i < length rows → row ≡ get_or rows i row → numbers (take (i + 1) rows) ≡ numbers (take i rows) ++ row.0 ∷ []
-numbers-more rows i row h e =
-    ap numbers (take_more rows i row h) ∙ map-append (λ (r : RowNo). r.0) (take i rows) (get_or rows i row ∷ [])
-    ∙ ap (λ (r : RowNo). numbers (take i rows) ++ r.0 ∷ []) (sym e)
-
-pub used-more : (rows : List RowNo) (i : ℕ) (row : RowNo) (held : List ℕ) → i < length rows → row ≡ get_or rows i row
-    → first_used held (drop i rows) ≡ first_used held (row ∷ drop (i + 1) rows)
-used-more rows i row held h e = ap (first_used held) (drop_more rows i row h) ∙ ap (λ (r : RowNo). first_used held (r ∷ drop (i + 1) rows)) (sym e)
 
 cons_cases : (k row : ℕ) (xs : List ℕ) → is_held (row ∷ xs) k ≡ true → (k ≡ row) ⊎ (is_held xs k ≡ true)
 cons_cases k row xs e = elim (or_cases (eqb k row) (is_held xs k) e) [ inl same ↦ inl (eqb-true k row same) | inr rest ↦ inr rest ]

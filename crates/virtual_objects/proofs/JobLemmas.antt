@@ -125,10 +125,10 @@ place-found n objects name rows block e = ap (place_in (n - 1) block) e
 -- the parts in the rows that a job touches
 job_parts : (n first count : ℕ) (objects : List Object) (name : Name) (rows : List RowNo) (rs : List RowNo) → 2 ≤ n → 1 ≤ count → rows_of objects name ≡ Some rows
     → IsDistinct eqb (numbers rs) → length rs ≡ (first + count - 1) / (n - 1) + 1 - first / (n - 1) → length rs ≤ 8 → StandsAt rows (first / (n - 1)) rs
-    → Ends (n - 1) first (first + count) rows
+    → rs ≡ take (length rs) (drop (first / (n - 1)) rows) → Ends (n - 1) first (first + count) rows
     → ArePartsOf n objects name first count (parts_from (n - 1) first (first + count) (first / (n - 1)) rs)
-job_parts n first count objects name rows [] hn hc found apart long few stands ends = absurd (let o = ends.order in let none : length {A = RowNo} [] ≡ 0 = refl in omega arith)
-job_parts n first count objects name rows (row ∷ rs) hn hc found apart long few stands ends =
+job_parts n first count objects name rows [] hn hc found apart long few stands cut ends = absurd (let o = ends.order in let none : length {A = RowNo} [] ≡ 0 = refl in omega arith)
+job_parts n first count objects name rows (row ∷ rs) hn hc found apart long few stands cut ends =
     let s : Spans (n - 1) first (first + count) (first / (n - 1)) (length rs) = job_spans (n - 1) first (first + count) rows (length rs) (omega arith) (omega arith) ends long in
     let low : max first (first / (n - 1) * (n - 1)) ≡ first = (let l = ends.low in omega arith) in
     let none : max first (first / (n - 1) * (n - 1)) - first ≡ 0 = omega arith in
@@ -141,6 +141,10 @@ job_parts n first count objects name rows (row ∷ rs) hn hc found apart long fe
         each = each-part n (n - 1) first (first + count) (first / (n - 1)) row rs refl s;
         in_turn = subst (λ (a : ℕ). AreInTurn a (parts_from (n - 1) first (first + count) (first / (n - 1)) (row ∷ rs))) none (in-turn (n - 1) first (first + count) (first / (n - 1)) row rs s);
       };
+      in_order =
+          ap (λ (rs : List RowNo). Some rs) (rows-same (n - 1) first (first + count) (first / (n - 1)) (row ∷ rs) ∙ cut
+          ∙ ap (λ (k : ℕ). take k (drop (first / (n - 1)) rows)) (sym (length-parts (n - 1) first (first + count) (first / (n - 1)) (row ∷ rs))))
+          ∙ ap (option_map (λ (xs : List RowNo). take (length (parts_from (n - 1) first (first + count) (first / (n - 1)) (row ∷ rs))) (drop (first / (n - 1)) xs))) (sym found);
       total = counts (n - 1) first (first + count) (first / (n - 1)) row rs s ∙ all;
       covers = covers-from n (n - 1) first (first + count) (first / (n - 1)) rows row rs refl s stands
           ∙ ap (λ (a : ℕ). map (λ block. placed_in (n - 1) block (slice_get rows (block / (n - 1)))) (range_with_len a (first + count - a))) low
@@ -169,7 +173,8 @@ are_parts n first count objects name rows ps hn hc found distinct ok =
     subst (ArePartsOf n objects name first count) g.2
     (job_parts n first count objects name rows (take (rows_touched (n - 1) first count) (drop (first / (n - 1)) rows)) hn hc found
     (touched_distinct (rows_touched (n - 1) first count) (first / (n - 1)) rows (object_distinct objects name rows distinct found))
-    long (omega arith) (touched_stand (rows_touched (n - 1) first count) (first / (n - 1)) rows) ends)
+    long (omega arith) (touched_stand (rows_touched (n - 1) first count) (first / (n - 1)) rows)
+    (ap (λ (k : ℕ). take k (drop (first / (n - 1)) rows)) (sym long)) ends)
 
 -- the row of the last part begins before the job's end
 pub last_starts : (d first last len : ℕ) (rows : List RowNo) → 1 ≤ d → first < last → last ≤ length rows * d → len ≤ (last - 1) / d + 1 - first / d → (first / d + len) * d < last + d

@@ -5,3 +5,4 @@ pub mod TableLemmas
 pub mod MaskLemmas
 pub mod PartLemmas
 pub mod JobLemmas
+pub mod PlaceLemmas

@@ -21,12 +21,6 @@ pub record Meets (d first last index : ℕ) : Type 0 where
   pub ends : index * d < last
   pub some : first < last
 
-pub low_of : ℕ → ℕ → ℕ → ℕ
-low_of d first index = max first (index * d)
-
-pub high_of : ℕ → ℕ → ℕ → ℕ
-high_of d last index = min last (index * d + d)
-
 -- how they lie in the row
 pub record Lies (d first last index : ℕ) : Type 0 where
   pub first_low : first ≤ max first (index * d)

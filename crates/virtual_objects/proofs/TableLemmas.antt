@@ -117,7 +117,7 @@ each_among : (objects : List Object) (bound : ℕ) → length (held objects) ≤
 each_among [] bound h = All-nil (λ (object : Object). length object.rows ≤ bound)
 each_among (object ∷ objects) bound h =
     let all : length (held (object ∷ objects)) ≡ length object.rows + length (held objects) =
-      length-append (numbers object.rows) (held objects) ∙ ap (λ n. n + length (held objects)) (length-map object.rows (λ (row : RowNo). row.0)) in
+    length-append (numbers object.rows) (held objects) ∙ ap (λ n. n + length (held objects)) (length-map object.rows (λ (row : RowNo). row.0)) in
     All-cons (λ (o : Object). length o.rows ≤ bound) object objects (omega arith) (each_among objects bound (omega arith))
 
 -- each object's rows are no more than there are

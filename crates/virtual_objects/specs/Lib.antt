@@ -2,3 +2,4 @@ pub mod Objects
 pub mod Table
 pub mod Marks
 pub mod RowParts
+pub mod Places

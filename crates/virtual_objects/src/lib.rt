@@ -7,6 +7,6 @@ mod marks;
 mod parts;
 mod table;
 
-pub use parts::RowParts;
+pub use parts::{RowParts, units_are_placed};
 pub use raid_base::{Name, NoMemory, PartsFault, RowNo, RowPart};
 pub use table::{MAX_OBJECTS, Object, ObjectFault, Objects};

@@ -1,9 +1,10 @@
 //! Where blocks stand, and the parts of a job.
-ghost use Rattle.std.specs.Prelude.{◌≡◌, ℕ, ◌+◌, ◌-◌, ◌*◌, ◌/◌, ◌^◌, ◌<◌, ◌≤◌, IfOk, length};
+ghost use Rattle.std.specs.Prelude.{◌≡◌, ℕ, ◌+◌, ◌-◌, ◌*◌, ◌/◌, ◌^◌, ◌<◌, ◌≤◌, IfOk, All, length};
 ghost use Rattle.std.specs.Result.{result_map_both};
 ghost use Rattle.virtual_objects.specs.Objects.{parts, place, part_at, parts_in, parts_from, rows_touched};
 ghost use Rattle.virtual_objects.specs.RowParts.{ArePartsOf};
-ghost use Rattle.virtual_objects.specs.Table.{AreObjects};
+ghost use Rattle.virtual_objects.specs.Places.{ArePlaces};
+ghost use Rattle.virtual_objects.specs.Table.{AreObjects, ObjectTable};
 
 use crate::table::Objects;
 use arrayvec::ArrayVec;
@@ -104,6 +105,7 @@ impl Objects {
         requires first_below { first < 2 ^ 20 }
         ensures value { result_map_both (λ parts. parts.items) (λ fault. fault) result ≡ parts self.now.n self.now.objects name.now first count }
         ensures parts { IfOk result (λ parts. ArePartsOf self.now.n self.now.objects name.now first count parts.items) }
+        ensures below { IfOk result (λ parts. All (λ part. part.row.0 < self.now.rows) parts.items) }
     {
         let units = u32::from(self.devices() - 1);
         match self.rows_of(name) {
@@ -122,6 +124,11 @@ impl Objects {
         Some((*row, (block % units) as u8))
     }
 }
+
+/// Each data unit of the rows that objects hold is the place of just one block.
+pub fn units_are_placed()
+    ensures { (table : ObjectTable) → AreObjects table → ArePlaces table }
+{}
 
 #[cfg(test)]
 mod tests {

@@ -1,6 +1,5 @@
-use Rattle.std.proofs.Common.{◌≡◌, ◌≤◌, not, ◌||◌, length}
+use Rattle.std.proofs.Common.{◌≡◌, ◌≤◌, ◌||◌, length}
 use Rattle.std.specs.List.{range_with_len, filter}
-use Rattle.raid_base.specs.Cells.{has_unit}
 use Rattle.attempts.specs.Releases.{is_among}
 use Rattle.attempts.proofs.units.ascending.Given as goal
 

@@ -1,7 +1,6 @@
-use Rattle.std.proofs.Common.{◌≡◌, ◌≤◌, not, ◌||◌, length}
+use Rattle.std.proofs.Common.{◌≡◌, ◌≤◌, not, length}
 use Rattle.std.specs.List.{range_with_len, filter}
 use Rattle.raid_base.specs.Cells.{has_unit}
-use Rattle.attempts.specs.Releases.{is_among}
 use Rattle.attempts.proofs.units.units_out.Given as goal
 
 abbrev pub invariant-loop-unit : goal.invariant-loop-unit

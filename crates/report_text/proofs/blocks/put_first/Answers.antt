@@ -1,4 +1,4 @@
-use Rattle.std.proofs.Common.{arith, ◌≡◌, get_or, ℕ}
+use Rattle.std.proofs.Common.{arith, ℕ}
 use Rattle.std.proofs.lemmas.List.FromFn.{get_or-map-range_with_len, length-map-range_with_len}
 use Rattle.virtual_objects.specs.Objects.{Address}
 use Rattle.report_text.specs.Views.{shown_line, first_blocks}

@@ -1,4 +1,4 @@
-use Rattle.std.proofs.Common.{arith, ◌≡◌, List, get_or, length, sym, ap, ◌∙◌}
+use Rattle.std.proofs.Common.{arith, get_or, length, sym, ap, ◌∙◌}
 use Rattle.std.specs.List.{flat_map}
 use Rattle.virtual_objects.specs.Objects.{Object}
 use Rattle.report_text.specs.Views.{shown_line, object_blocks}

@@ -1,8 +1,7 @@
-use Rattle.std.proofs.Common.{◌≡◌, List, Some, None, ap, sym, ◌∙◌, slice_get, length, get_or, arith, ◌<◌}
+use Rattle.std.proofs.Common.{◌≡◌, Some, ap, sym, ◌∙◌, slice_get}
 use Rattle.std.proofs.lemmas.Option.{slice_get-get_or}
 use Rattle.std.specs.Prelude.{find}
-use Rattle.raid_base.specs.declared.jobs.Job.{Job}
-use Rattle.script_text.specs.Script.{Script, HostJobs, jobs_in, jobs_of}
+use Rattle.script_text.specs.Script.{Script, jobs_in, jobs_of}
 use Rattle.report_text.specs.Views.{job_blocks}
 use Rattle.report_text.proofs.JobLookup.{is_of, none-got}
 use Rattle.report_text.proofs.jobs.blocks_of_result.Goals as goal

@@ -34,7 +34,7 @@ returns-in_err-put_jobs g c =
     let turns = turn_lines view.turns.now in
     let rows = row_lines 0 (map not view.opened.now) in
     let end = line (codes "end" ∷ []) in
-    appends-stops _ end (stops-before rows (stops-before blocks (stops-before turns (appends-then (c.in_ok-put_line.ensures) c.in_err-put_jobs.ensures refl)))) c.from_residual-in_err-put_jobs.ensures.0 refl
+    appends-stops _ end (stops-before rows (stops-before blocks (stops-before turns (appends-then {b = jobs} (c.in_ok-put_line.ensures) c.in_err-put_jobs.ensures refl)))) c.from_residual-in_err-put_jobs.ensures.0 refl
 
 pub returns-in_err-put_turns : goal.returns-in_err-put_turns
 returns-in_err-put_turns g c =
@@ -48,7 +48,7 @@ returns-in_err-put_turns g c =
     let turns = turn_lines view.turns.now in
     let rows = row_lines 0 (map not view.opened.now) in
     let end = line (codes "end" ∷ []) in
-    appends-stops _ end (stops-before rows (stops-before blocks (appends-then (appends-then (c.in_ok-put_line.ensures) c.in_ok-put_jobs.ensures refl) c.in_err-put_turns.ensures refl))) c.from_residual-in_err-put_turns.ensures.0 refl
+    appends-stops _ end (stops-before rows (stops-before blocks (appends-then {b = turns} (appends-then {b = jobs} (c.in_ok-put_line.ensures) c.in_ok-put_jobs.ensures refl) c.in_err-put_turns.ensures refl))) c.from_residual-in_err-put_turns.ensures.0 refl
 
 pub returns-in_err-put_blocks : goal.returns-in_err-put_blocks
 returns-in_err-put_blocks g c =
@@ -62,7 +62,7 @@ returns-in_err-put_blocks g c =
     let turns = turn_lines view.turns.now in
     let rows = row_lines 0 (map not view.opened.now) in
     let end = line (codes "end" ∷ []) in
-    appends-stops _ end (stops-before rows (appends-then (appends-then (appends-then (c.in_ok-put_line.ensures) c.in_ok-put_jobs.ensures refl) c.in_ok-put_turns.ensures refl) c.in_err-put_blocks.ensures (ap (λ z. line (codes "report" ∷ codes "1" ∷ []) ++ jobs ++ turns ++ z) blocks_is))) c.from_residual-in_err-put_blocks.ensures.0 refl
+    appends-stops _ end (stops-before rows (appends-then (appends-then {b = turns} (appends-then {b = jobs} (c.in_ok-put_line.ensures) c.in_ok-put_jobs.ensures refl) c.in_ok-put_turns.ensures refl) c.in_err-put_blocks.ensures (ap (λ z. line (codes "report" ∷ codes "1" ∷ []) ++ jobs ++ turns ++ z) blocks_is))) c.from_residual-in_err-put_blocks.ensures.0 refl
 
 pub returns-in_err-put_rows : goal.returns-in_err-put_rows
 returns-in_err-put_rows g c =
@@ -76,7 +76,7 @@ returns-in_err-put_rows g c =
     let turns = turn_lines view.turns.now in
     let rows = row_lines 0 (map not view.opened.now) in
     let end = line (codes "end" ∷ []) in
-    appends-stops _ end (appends-then (appends-then (appends-then (appends-then (c.in_ok-put_line.ensures) c.in_ok-put_jobs.ensures refl) c.in_ok-put_turns.ensures refl) c.in_ok-put_blocks.ensures (ap (λ z. line (codes "report" ∷ codes "1" ∷ []) ++ jobs ++ turns ++ z) blocks_is)) c.in_err-put_rows.ensures refl) c.from_residual-in_err-put_rows.ensures.0 refl
+    appends-stops _ end (appends-then {b = rows} (appends-then (appends-then {b = turns} (appends-then {b = jobs} (c.in_ok-put_line.ensures) c.in_ok-put_jobs.ensures refl) c.in_ok-put_turns.ensures refl) c.in_ok-put_blocks.ensures (ap (λ z. line (codes "report" ∷ codes "1" ∷ []) ++ jobs ++ turns ++ z) blocks_is)) c.in_err-put_rows.ensures refl) c.from_residual-in_err-put_rows.ensures.0 refl
 
 pub returns : goal.returns
 returns g c =
@@ -90,4 +90,4 @@ returns g c =
     let turns = turn_lines view.turns.now in
     let rows = row_lines 0 (map not view.opened.now) in
     let end = line (codes "end" ∷ []) in
-    appends-then (appends-then (appends-then (appends-then (appends-then (c.in_ok-put_line.ensures) c.in_ok-put_jobs.ensures refl) c.in_ok-put_turns.ensures refl) c.in_ok-put_blocks.ensures (ap (λ z. line (codes "report" ∷ codes "1" ∷ []) ++ jobs ++ turns ++ z) blocks_is)) c.in_ok-put_rows.ensures refl) c.put_line-2.ensures refl
+    appends-then (appends-then {b = rows} (appends-then (appends-then {b = turns} (appends-then {b = jobs} (c.in_ok-put_line.ensures) c.in_ok-put_jobs.ensures refl) c.in_ok-put_turns.ensures refl) c.in_ok-put_blocks.ensures (ap (λ z. line (codes "report" ∷ codes "1" ∷ []) ++ jobs ++ turns ++ z) blocks_is)) c.in_ok-put_rows.ensures refl) c.put_line-2.ensures refl

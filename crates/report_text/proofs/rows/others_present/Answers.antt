@@ -1,7 +1,6 @@
-use Rattle.std.proofs.Common.{◌≡◌, ◌-◌, List, Option, length, get_or, map, take, [], ◌∷◌, Some, None, length-append, arith, sym, ◌∙◌, ap}
+use Rattle.std.proofs.Common.{◌≡◌, ◌-◌, length, get_or, map, [], ◌∷◌, Some, None, length-append, arith, sym, ◌∙◌, ap}
 use Rattle.std.proofs.lemmas.List.{take_all}
 use Rattle.std.proofs.lemmas.List.FromFn.{get_or-map-range_with_len, length-map-range_with_len}
-use Rattle.raid_base.specs.declared.cells.Cell.{Cell}
 use Rattle.stripe_layout.specs.Placement.{units}
 use Rattle.degraded_plans.specs.Rows.{all_present, others_of}
 use Rattle.report_text.specs.Rows.{unit_in}

@@ -1,4 +1,4 @@
-use Rattle.std.proofs.Common.{false, Some, None, get_or, ap, sym, ◌∙◌}
+use Rattle.std.proofs.Common.{false, get_or, ap, sym, ◌∙◌}
 use Rattle.raid_base.specs.declared.cells.Shown.TheVariants.{Seen}
 use Rattle.degraded_plans.specs.Rows.{shown_cell}
 use Rattle.report_text.specs.Rows.{unit_in, row_in}

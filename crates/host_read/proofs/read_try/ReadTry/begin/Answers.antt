@@ -1,8 +1,7 @@
-use Rattle.std.proofs.Common.{◌≡◌, [], length, get_or, refl, ap, arith}
+use Rattle.std.proofs.Common.{[], get_or, refl, ap}
 use Rattle.raid_base.specs.declared.jobs.RowPart.{RowPart}
 use Rattle.attempts.specs.Taking.{Access, no_rows}
 use Rattle.host_read.proofs.ReadLemmas.{row_begins}
-use Rattle.host_read.proofs.TryLemmas.{some-parts}
 use Rattle.host_read.proofs.read_try.ReadTry.begin.Goals as goal
 
 pub returns : goal.returns
@@ -10,7 +9,7 @@ returns c =
     let a : Access = record { mode = c.args.mode; n = c.args.n; id = c.args.id; parts = c.args.parts.items; blocks = [] } in
     let d : RowPart = record { row = record { 0 = 0 }; mask = 0; at = 0; count = 0 } in
     row_begins a no_rows 0 d (get_or c.deref.result.now 0 d) c.begin.result c.wanted_shares-queue.result
-    (some-parts c.args.n c.args.parts.items c.requires.parts)
+    c.requires.parts.some
     (ap (λ ps. get_or ps 0 d) c.deref.ensures.0)
     c.begin.ensures
     c.wanted_shares-queue.ensures.value

@@ -1,4 +1,4 @@
-use Rattle.std.proofs.Common.{◌≡◌, ◌<◌, [], None, length, refl, ap, sym, ◌∙◌, option_map, IsSome, slice_get, subst, arith}
+use Rattle.std.proofs.Common.{◌≡◌, [], length, refl, ap, sym, ◌∙◌, option_map, IsSome, slice_get, subst, arith}
 use Rattle.raid_base.specs.declared.messages.Errand.{Errand}
 use Rattle.attempts.specs.Accesses.{access_of}
 use Rattle.host_read.proofs.TryLemmas.{next-left, asks-left, has-errand, some-first, none-first}

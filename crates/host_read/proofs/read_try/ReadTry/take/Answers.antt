@@ -1,11 +1,10 @@
-use Rattle.std.proofs.Common.{◌≡◌, [], length, ap, sym, ◌∙◌}
+use Rattle.std.proofs.Common.{[], length, ap, sym, ◌∙◌}
 use Rattle.raid_base.specs.Steps.{behind, settled}
 use Rattle.attempts.specs.Accesses.{access_of}
 use Rattle.host_read.specs.Left.{left_of}
 use Rattle.host_read.specs.Tries.{left}
 use Rattle.host_read.proofs.ReadLemmas.{draws-left, draws-released}
 use Rattle.host_read.proofs.TryLemmas.{stands, released-left, has-errand}
-use Rattle.host_read.specs.declared.stages.ReadStage.TheVariants.{Releasing}
 use Rattle.raid_base.specs.declared.jobs.Ended.TheVariants.{Refused}
 use Rattle.raid_base.specs.Steps.{draws}
 use Rattle.host_read.proofs.read_try.ReadTry.take.Goals as goal

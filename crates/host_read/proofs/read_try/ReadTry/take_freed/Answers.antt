@@ -1,5 +1,4 @@
-use Rattle.std.proofs.Common.{◌≡◌, [], ap, sym, ◌∙◌, if◌then◌else◌}
-use Rattle.raid_base.specs.First.{first_errand}
+use Rattle.std.proofs.Common.{[], ap, sym, ◌∙◌, if◌then◌else◌}
 use Rattle.raid_base.specs.Replies.{is_done}
 use Rattle.raid_base.specs.Steps.{behind}
 use Rattle.attempts.specs.Accesses.{access_of}

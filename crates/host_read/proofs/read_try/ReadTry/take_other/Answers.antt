@@ -60,5 +60,5 @@ returns-else-len-gt1-clause-told c =
     let keeps : t' ≡ with_grant with_other t.taken (first_errand t.queue).bay (grant_of r) = cc in
     c.settled-stage.ensures.left
     ∙ ap (settled c.args.numbers.now.host c.args.numbers.now.seen)
-      (last-left a with_other (row_shared a) t.taken t' t.queue r (left_of ahead.stage a c.end_row-ahead.new.taken ahead.queue) one why keeps c.end_row-ahead.ensures.left
-      ∙ ap (λ s. behind (left_of s a t.taken t.queue) r) (sym c.requires))
+    (last-left a with_other (row_shared a) t.taken t' t.queue r (left_of ahead.stage a c.end_row-ahead.new.taken ahead.queue) one why keeps c.end_row-ahead.ensures.left
+    ∙ ap (λ s. behind (left_of s a t.taken t.queue) r) (sym c.requires))

@@ -1,16 +1,15 @@
-use Rattle.std.proofs.Common.{◌≡◌, ◌<◌, [], true, None, Some, length, length-drop, drop, refl, ap, sym, ◌∙◌, arith}
+use Rattle.std.proofs.Common.{◌≡◌, ◌<◌, [], true, None, Some, length, refl, ap, sym, ◌∙◌, arith}
 use Rattle.raid_base.specs.First.{first_errand}
 use Rattle.raid_base.specs.Replies.{grant_of}
-use Rattle.raid_base.specs.Steps.{behind, draws, settled}
-use Rattle.raid_base.proofs.DrawLemmas.{draws-run}
+use Rattle.raid_base.specs.Steps.{behind, settled}
 use Rattle.attempts.specs.Accesses.{access_of}
 use Rattle.attempts.specs.Taking.{behind_from, refusal, with_grant, with_parity}
-use Rattle.attempts.specs.Reading.{sharing, parity_shared}
+use Rattle.attempts.specs.Reading.{parity_shared}
 use Rattle.host_read.specs.declared.stages.ReadStage.TheVariants.{Parity}
 use Rattle.host_read.specs.Stages.{is_kept}
 use Rattle.host_read.specs.Left.{left_of, rest_of}
 use Rattle.host_read.proofs.ReadLemmas.{draws-left}
-use Rattle.host_read.proofs.TryLemmas.{stands, stop-left, on-left, last-left, one-parity}
+use Rattle.host_read.proofs.TryLemmas.{stands, stop-left, last-left, one-parity}
 use Rattle.host_read.proofs.read_try.ReadTry.take_parity.Goals as goal
 
 pub returns-in-Some-clause-told : goal.returns-in-Some-clause-told
@@ -40,5 +39,5 @@ returns-in-None-clause-told c =
     let keeps : t' ≡ with_grant with_parity t.taken (first_errand t.queue).bay (grant_of r) = cc in
     c.settled-stage.ensures.left
     ∙ ap (settled c.args.numbers.now.host c.args.numbers.now.seen)
-      (last-left a with_parity (parity_shared a) t.taken t' t.queue r (left_of ahead.stage a c.after_parity-ahead.new.taken ahead.queue) one why keeps c.after_parity-ahead.ensures.left
-      ∙ ap (λ s. behind (left_of s a t.taken t.queue) r) (sym c.requires))
+    (last-left a with_parity (parity_shared a) t.taken t' t.queue r (left_of ahead.stage a c.after_parity-ahead.new.taken ahead.queue) one why keeps c.after_parity-ahead.ensures.left
+    ∙ ap (λ s. behind (left_of s a t.taken t.queue) r) (sym c.requires))

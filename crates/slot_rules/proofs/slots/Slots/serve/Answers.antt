@@ -1,7 +1,7 @@
 use Rattle.std.proofs.Common.{◌<◌, ◌∙◌, sym, ap, subst, ℕ, length, slice_set}
 use Rattle.slot_rules.specs.Tables.{Table}
 use Rattle.slot_rules.specs.Rules.{raised}
-use Rattle.slot_rules.specs.Serving.{ServedRow}
+use Rattle.slot_rules.specs.Parts.{ServedRow}
 use Rattle.slot_rules.proofs.TableParts.{served-row}
 use Rattle.slot_rules.proofs.slots.Slots.serve.Goals as goal
 

@@ -1,0 +1,4 @@
+pub mod KeepLemmas
+pub mod ServeLemmas
+pub mod JournalLemmas
+pub mod BayLemmas

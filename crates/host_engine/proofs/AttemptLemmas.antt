@@ -1,0 +1,53 @@
+-- How an attempt begins.
+use Rattle.std.proofs.Common.{◌≡◌, ℕ, ◌+◌, ◌≤◌, true, List, [], ◌∷◌, length, drop, refl, sym, ap, ◌∙◌, arith}
+use Rattle.std.proofs.lemmas.Bool.{leb-true}
+use Rattle.std.proofs.lemmas.List.{length-take-le, length-drop}
+use Rattle.raid_base.specs.declared.names.Name.{Name}
+use Rattle.raid_base.specs.declared.jobs.Task.{Task}
+use Rattle.raid_base.specs.declared.jobs.Task.TheVariants as tasks
+use Rattle.raid_base.specs.declared.jobs.RowPart.{RowPart}
+use Rattle.attempts.specs.Parts.{blocks_in}
+use Rattle.raid_base.specs.declared.messages.Errand.{Errand}
+use Rattle.raid_base.specs.Steps.{answer}
+use Rattle.attempts.specs.Taking.{Access, Row, Taken}
+use Rattle.attempts.specs.Puts.{Puts}
+use Rattle.host_write.specs.declared.stages.WriteStage.{WriteStage}
+use Rattle.host_write.specs.declared.stages.WriteStage.TheVariants.{ClaimParity, ClaimWanted, ClaimSmall, ShareUntil, ShareAfter, Confirm, Draw, PutData, PutParity, Finish, Release}
+use Rattle.host_write.specs.Stages.{is_kept, is_settled}
+use Rattle.host_write.specs.Left.{left_of}
+use Rattle.script_text.specs.Script.{Script}
+use Rattle.host_engine.specs.Plain.{task_blocks, task_count, is_held_task, AreTaskParts, contents_in}
+
+-- a write has as many blocks as its parts
+pub suits-write : (script : Script) (task : Task) (object : Name) (first from count : ℕ) (n : ℕ) (parts : List RowPart) (k : ℕ) → task ≡ tasks.Write object first from count →
+    is_held_task (length script.blocks) task ≡ true → AreTaskParts n task parts → k ≡ blocks_in parts → length (task_blocks script task) ≡ k
+suits-write script task object first from count n parts k is held sound counted =
+    let within : from + count ≤ length script.blocks = leb-true (from + count) (length script.blocks) (sym (ap (is_held_task (length script.blocks)) is) ∙ held) in
+    let total : blocks_in parts ≡ count = sound.total ∙ ap task_count is in
+    ap (λ (t : Task). length (task_blocks script t)) is ∙ length-take-le count (drop from script.blocks) (omega (arith, within, length-drop from script.blocks)) ∙ sym (counted ∙ total)
+
+-- a write reads nothing
+pub nothing-read : (stage : WriteStage) (a : Access) (t : Taken) (rows : List Row) (puts : Puts) (es : List Errand) (n : ℕ) (parts : List RowPart)
+    → is_kept stage n parts (length es) t rows puts ≡ true → is_settled stage ≡ true → contents_in (answer (left_of stage a t rows puts es)) ≡ []
+nothing-read ClaimParity a t rows puts [] n parts k h = cc
+nothing-read ClaimWanted a t rows puts [] n parts k h = cc
+nothing-read ClaimSmall a t rows puts [] n parts k h = cc
+nothing-read ShareUntil a t rows puts [] n parts k h = cc
+nothing-read ShareAfter a t rows puts [] n parts k h = cc
+nothing-read Confirm a t rows puts [] n parts k h = cc
+nothing-read Draw a t rows puts [] n parts k h = cc
+nothing-read (PutData m row) a t rows puts [] n parts k h = cc
+nothing-read (PutParity m row) a t rows puts [] n parts k h = cc
+nothing-read (Finish m) a t rows puts [] n parts k h = refl
+nothing-read (Release cause) a t rows puts [] n parts k h = refl
+nothing-read ClaimParity a t rows puts (x ∷ es) n parts k h = refl
+nothing-read ClaimWanted a t rows puts (x ∷ es) n parts k h = refl
+nothing-read ClaimSmall a t rows puts (x ∷ es) n parts k h = refl
+nothing-read ShareUntil a t rows puts (x ∷ es) n parts k h = refl
+nothing-read ShareAfter a t rows puts (x ∷ es) n parts k h = refl
+nothing-read Confirm a t rows puts (x ∷ es) n parts k h = refl
+nothing-read Draw a t rows puts (x ∷ es) n parts k h = cc
+nothing-read (PutData m row) a t rows puts (x ∷ es) n parts k h = refl
+nothing-read (PutParity m row) a t rows puts (x ∷ es) n parts k h = refl
+nothing-read (Finish m) a t rows puts (x ∷ es) n parts k h = refl
+nothing-read (Release cause) a t rows puts (x ∷ es) n parts k h = refl

@@ -1,0 +1,23 @@
+use Rattle.std.proofs.Common.{get_or, sym, subst, Bool}
+use Rattle.host_engine.specs.Stands.{FirstTask, Begins, Stands, Skips}
+use Rattle.host_engine.specs.Progress.{Progress, try_task}
+use Rattle.host_engine.proofs.HostLemmas.{first-task, again-begun, again-spent}
+use Rattle.host_engine.proofs.host.Host.try_again.Goals as goal
+
+pub returns-else-not-try_task-clause-stands : goal.returns-else-not-try_task-clause-stands
+returns-else-not-try_task-clause-stands c = λ script host p h.
+    let jobs = c.args.self.now.jobs.now in
+    let task = (get_or jobs c.args.self.now.job c.index-jobs-self.result).task in
+    let first : FirstTask p.jobs task = rw (h.jobs, ← h.listed) (first-task jobs c.args.self.now.job c.index-jobs-self.result c.requires.job) in
+    again-begun script host p c.try_task.new.self task first
+    (subst (λ (b : Bool). Begins script host (λ rest q. try_task script host task rest q) b p c.try_task.new.self) c.if-not-try_task.false (c.try_task.ensures.begun script host p h first))
+
+pub returns-then-not-try_task-clause-stands : goal.returns-then-not-try_task-clause-stands
+returns-then-not-try_task-clause-stands c = λ script host p h.
+    let jobs = c.args.self.now.jobs.now in
+    let task = (get_or jobs c.args.self.now.job c.index-jobs-self.result).task in
+    let first : FirstTask p.jobs task = rw (h.jobs, ← h.listed) (first-task jobs c.args.self.now.job c.index-jobs-self.result c.requires.job) in
+    let skips = subst (λ (b : Bool). Skips b c.args.self.now c.try_task.new.self) c.if-not-try_task.true c.try_task.ensures.job in
+    let begun = subst (λ (b : Bool). Begins script host (λ rest q. try_task script host task rest q) b p c.try_task.new.self) c.if-not-try_task.true (c.try_task.ensures.begun script host p h first) in
+    let spent = again-spent script host c.args.self.now.job p c.try_task.new.self task first h.jobs skips.0 begun in
+    subst (λ (q : Progress). Stands script host c.start.new.self q) (sym spent.2) (c.start.ensures.stands script host spent.0 spent.1)

@@ -1,0 +1,147 @@
+//! What a write does next, while it confirms its rows.
+ghost use Rattle.std.specs.Prelude.{◌≡◌, ℕ, List, [], ◌∷◌, ◌<◌, ◌≤◌, Option, IfSome, true, length, drop, unwrap_or};
+ghost use Rattle.arrayvec.specs.ArrayVec.{array_vec_len};
+ghost use Rattle.raid_base.specs.declared.jobs.Cause.TheVariants as causes;
+ghost use Rattle.attempts.specs.Accesses.{access_of};
+ghost use Rattle.attempts.specs.Parts.{blocks_in};
+ghost use Rattle.attempts.specs.Taking.{Row as RowView, refusal};
+ghost use Rattle.attempts.specs.Releases.{write_releases, refused_steps};
+ghost use Rattle.attempts.specs.Puts.{Puts as PutsView};
+ghost use Rattle.attempts.specs.Writing.{held_row, confirmed_row, row_or_change, confirm_rows};
+ghost use Rattle.host_write.specs.Stages.{is_kept, is_settled, are_rows, is_row};
+ghost use Rattle.host_write.specs.Left.{left_of, confirmed_so_far};
+
+use crate::claims::row_confirm;
+use crate::puts::Puts;
+use crate::putting::numbered;
+use crate::stages::{Ahead, WriteStage};
+use attempts::assignment::Assignment;
+use attempts::holds::write_releases;
+use attempts::queue::Queue;
+use attempts::replies::refusal;
+use attempts::rows::{Row, Taken, lacks};
+use raid_base::{BayNo, Cause, Cell, Grant, Number, Reply, RowNo};
+
+/// The row once its parity answered that it is held, with its cell where that was asked.
+fn held_row(row: &Row, grant: Grant, want: bool, held: Option<Option<Cell>>) -> Option<Row>
+    requires wanted { length row.now.wanted ≤ 16 }
+    requires others { length row.now.others ≤ 16 }
+    ensures value { result ≡ held_row row.now grant want held }
+    ensures kept { (n total : ℕ) → is_row n total row.now ≡ true → IfSome result (λ r. is_row n total r ≡ true) }
+{
+    match held {
+        None => None,
+        Some(cell) => {
+            if want {
+                match cell {
+                    None => None,
+                    Some(cell) => {
+                        let shown = Grant {
+                            cell: Some(cell),
+                            last: grant.last,
+                            life: grant.life,
+                            seized: grant.seized,
+                        };
+                        Some(row.with_parity(Some(shown)))
+                    }
+                }
+            } else {
+                Some(row.copied())
+            }
+        }
+    }
+}
+
+/// The row once its parity answered as it was: held where it was granted, and missing where it was missing.
+fn confirmed_row(row: &Row, reply: &Reply) -> Option<Row>
+    requires wanted { length row.now.wanted ≤ 16 }
+    requires others { length row.now.others ≤ 16 }
+    ensures value { result ≡ confirmed_row row.now reply.now row.now.parity }
+    ensures kept { (n total : ℕ) → is_row n total row.now ≡ true → IfSome result (λ r. is_row n total r ≡ true) }
+{
+    match row.parity() {
+        Some(grant) => held_row(row, grant, lacks(row.others()), reply.held()),
+        None => {
+            if reply.is_missing() {
+                Some(row.copied())
+            } else {
+                None
+            }
+        }
+    }
+}
+
+/// The row once it is confirmed, or none where the reply refuses or the row has changed.
+pub fn row_or_change(
+    least: Option<Number>,
+    missing: Option<BayNo>,
+    bay: BayNo,
+    row: &Row,
+    reply: &Reply,
+) -> Option<Row>
+    requires wanted { length row.now.wanted ≤ 16 }
+    requires others { length row.now.others ≤ 16 }
+    ensures value { result ≡ row_or_change least missing bay row.now reply.now }
+    ensures kept { (n total : ℕ) → is_row n total row.now ≡ true → IfSome result (λ r. is_row n total r ≡ true) }
+{
+    match refusal(least, missing, bay, reply) {
+        Some(_) => None,
+        None => confirmed_row(row, reply),
+    }
+}
+
+/// Why a row is not confirmed.
+pub fn confirm_cause(
+    least: Option<Number>,
+    missing: Option<BayNo>,
+    bay: BayNo,
+    row: RowNo,
+    reply: &Reply,
+) -> Cause
+    ensures { result ≡ unwrap_or (refusal least missing bay reply.now) (causes.Changed row) }
+{
+    match refusal(least, missing, bay, reply) {
+        Some(cause) => cause,
+        None => Cause::Changed { row },
+    }
+}
+
+/// What is given back of all rows, where one is not confirmed.
+pub fn unconfirmed(job: &Assignment, taken: &Taken, cause: Cause) -> Ahead
+    requires { length taken.now.before ≤ 8 }
+    ensures left { (blocks : List (List ℕ)) → (rows : List RowView) → (puts : PutsView) → left_of result.stage (access_of job.now blocks) taken.now rows puts result.queue ≡ refused_steps (write_releases (access_of job.now blocks) taken.now.before) cause }
+    ensures kept { (rows : List RowView) → (puts : PutsView) → is_kept result.stage job.now.n job.now.parts.items (length result.queue) taken.now rows puts ≡ true }
+    ensures awake { is_settled result.stage ≡ true }
+{
+    Ahead {
+        stage: WriteStage::Release { cause },
+        queue: Queue::new(write_releases(job.mode, job.n, job.id, taken.before())),
+    }
+}
+
+/// What follows the confirm of a row: that of the next, or after the last the number.
+pub fn after_confirm(
+    job: &Assignment,
+    blocks: &[[u8; 64]],
+    taken: &Taken,
+    rows: &[Row],
+    puts: &mut Puts,
+) -> Ahead
+    requires blocks { length blocks.now ≡ blocks_in job.now.parts.items }
+    requires before { are_rows job.now.n (blocks_in job.now.parts.items) taken.now.before ≡ true }
+    requires rows { are_rows job.now.n (blocks_in job.now.parts.items) rows.now ≡ true }
+    requires within { length rows.now ≤ length taken.now.before }
+    ensures left { left_of result.stage (access_of job.now blocks.now) taken.now rows.now puts.new result.queue ≡ confirm_rows (access_of job.now blocks.now) taken.now.before (drop (length rows.now) taken.now.before) (confirmed_so_far taken.now rows.now) }
+    ensures kept { is_kept result.stage job.now.n job.now.parts.items (length result.queue) taken.now rows.now puts.new ≡ true }
+{
+    let before = taken.before();
+    let at = rows.len();
+    if at < before.len() {
+        Ahead {
+            stage: WriteStage::Confirm,
+            queue: row_confirm(job, &before[at]),
+        }
+    } else {
+        numbered(job, blocks, rows, puts)
+    }
+}

@@ -1,0 +1,5 @@
+use Rattle.text_lines.proofs.WriteLemmas.{spaced_is, writes_text}
+use Rattle.text_lines.proofs.writing.write_number.Goals as goal
+
+pub returns : goal.returns
+returns g c = writes_text _ _ _ _ _ _ _ _ (spaced_is _ _ _ c.as_slice.ensures.value c.number_text.ensures) c.write_pieces.ensures
