@@ -104,8 +104,6 @@ pub released-left : (m : Repair) (holds : List Hold) (why : Ended) (es es' : Lis
 released-left m holds why es es' r some e =
     ap (λ xs. left_of (Releasing why) m holds xs) e ∙ sym (behind-run-some releasing es tt (end_as why) r tt some refl)
 
-pub ruleset tries = (asks-left, has-errand)
-
 pub ruleset confirms = (settled-asks, settled-draws, draws-drawn, draws-released, behind-run-last, behind-run-none)
 
 -- what each stage keeps

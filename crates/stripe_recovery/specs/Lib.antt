@@ -1,0 +1,4 @@
+pub mod Stages
+pub mod Verdicts
+pub mod Left
+pub mod Tries
