@@ -19,6 +19,7 @@ use Rattle.degraded_plans.specs.Missing.{missing_of}
 use Rattle.degraded_plans.specs.Rows.{RowCells, IsSound, all_present}
 use Rattle.attempts.specs.Taking.{Finish}
 use Rattle.script_text.specs.Script.{Script}
+use Rattle.script_text.specs.Ranges.{IsScript}
 use Rattle.host_engine.specs.Progress.{Progress, Work, Trying}
 use Rattle.host_engine.specs.History.{IsHistory, Faults, progress_at, bay_at}
 use Rattle.schedule_play.specs.Turns.{all_ended, sim}
@@ -59,13 +60,13 @@ pub record IsCovered (script : Script) (history : List Call) (at : BayNo) (row :
   pub slot_writes : (bay_at script at history).empty ≡ false → AtMost (slot_at script history at row).write_no.0 (writes at row history)
 
 abbrev pub AccessesAreCovered : Type 0
-AccessesAreCovered = (script : Script) (history : List Call) → IsHistory script history → (at : BayNo) (row : RowNo) →
+AccessesAreCovered = (script : Script) (history : List Call) → IsScript script → IsHistory script history → (at : BayNo) (row : RowNo) →
     at.0 < script.n → row.0 < script.rows → IsCovered script history at row
 
 -- Number order: a write's number is above those of all earlier reads and writes of its slot, and a read's above those of all earlier writes.
 abbrev pub NumbersRise : Type 0
 NumbersRise = (script : Script) (later earlier : List Call) (call : Call) (row : RowNo) (n : Number) →
-    IsHistory script (later ++ call ∷ earlier) → row_of call.ask.what ≡ Some row →
+    IsScript script → IsHistory script (later ++ call ∷ earlier) → row_of call.ask.what ≡ Some row →
     (write_of call.ask.what call.answer.reply ≡ Some n → AllBelow n (writes call.bay row earlier) × AllBelow n (reads script call.bay row earlier))
     × (read_of script.mode call.ask.what call.answer.reply ≡ Some n → AllBelow n (writes call.bay row earlier))
 
@@ -74,7 +75,7 @@ abbrev pub HasMissing : Script → List Call → BayNo → Type 0
 HasMissing script history at = (row : RowNo) × (row.0 < script.rows) × IsNone (cell_at script history row at)
 
 abbrev pub OneIsMissing : Type 0
-OneIsMissing = (script : Script) (history : List Call) → IsHistory script history → (x y : BayNo) → x.0 < script.n → y.0 < script.n →
+OneIsMissing = (script : Script) (history : List Call) → IsScript script → IsHistory script history → (x y : BayNo) → x.0 < script.n → y.0 < script.n →
     HasMissing script history x → HasMissing script history y → x ≡ y
 
 -- Covered puts: where a write's data put was done, and no parity put of its row since, the parity is missing, or its note came
@@ -91,7 +92,7 @@ IsPutSince n row later = Happened (λ call. (id : Number) × IsPut (parity_bay n
 
 abbrev pub PutsAreCovered : Type 0
 PutsAreCovered = (script : Script) (later earlier : List Call) (call : Call) (row : RowNo) (unit : ℕ) (id : Number) →
-    IsHistory script (later ++ call ∷ earlier) → unit + 1 < script.n → IsWrite script.n row id earlier →
+    IsScript script → IsHistory script (later ++ call ∷ earlier) → unit + 1 < script.n → IsWrite script.n row id earlier →
     IsPut (bay_of script.n row unit) row id call → IsDone call →
     ¬ (IsPutSince script.n row later) →
     IsNone (cell_at script (later ++ call ∷ earlier) row (parity_bay script.n row))
@@ -126,7 +127,7 @@ OwnedBy script history host p (Trying steps) = (row : RowNo) (unit : ℕ) (id : 
 OwnedBy script history host p _ = Unit {0}
 
 abbrev pub RowsAreOwned : Type 0
-RowsAreOwned = (script : Script) (history : List Call) → IsHistory script history → (host : HostNo) →
+RowsAreOwned = (script : Script) (history : List Call) → IsScript script → IsHistory script history → (host : HostNo) →
     OwnedBy script history host (progress_at script host history) (progress_at script host history).work
 
 -- Commits: what a Done to the next request of a host commits, and the content of the last commit on a unit
@@ -154,7 +155,7 @@ IsCellOf content None = Unit {0}
 IsCellOf content (Some cell) = content_of cell ≡ content
 
 abbrev pub CellsAreCommitted : Type 0
-CellsAreCommitted = (script : Script) (history : List Call) → IsHistory script history → (row : RowNo) (unit : ℕ) →
+CellsAreCommitted = (script : Script) (history : List Call) → IsScript script → IsHistory script history → (row : RowNo) (unit : ℕ) →
     row.0 < script.rows → unit + 1 < script.n → IsCellOf (content_at script history row unit) (cell_at script history row (bay_of script.n row unit))
 
 -- Parity: where the parity is there and has no note, the row is sound, a missing unit being what the others make of it.
@@ -173,21 +174,21 @@ IsParityGood row (Some parity) (Some note) = Unit {0}
 IsParityGood row (Some parity) None = IsSoundOrFilled parity row.units (all_present row.units)
 
 abbrev pub ParityIsCovered : Type 0
-ParityIsCovered = (script : Script) (history : List Call) → IsHistory script history → (row : RowNo) → row.0 < script.rows →
+ParityIsCovered = (script : Script) (history : List Call) → IsScript script → IsHistory script history → (row : RowNo) → row.0 < script.rows →
     IsParityGood (row_cells script history row) (cell_at script history row (parity_bay script.n row)) (slot_at script history (parity_bay script.n row) row).note
 
 -- The headline's parts, for every history of a script
 abbrev pub PlaysAreSerial : Type 0
-PlaysAreSerial = (script : Script) (history : List Call) → IsHistory script history → all_ended script history ≡ true → IsSerialPlay script history
+PlaysAreSerial = (script : Script) (history : List Call) → IsScript script → IsHistory script history → all_ended script history ≡ true → IsSerialPlay script history
 
 abbrev pub ParityIsKept : Type 0
-ParityIsKept = (script : Script) (history : List Call) → IsHistory script history → KeepsParity script history
+ParityIsKept = (script : Script) (history : List Call) → IsScript script → IsHistory script history → KeepsParity script history
 
 abbrev pub LostBlocksAreTorn : Type 0
-LostBlocksAreTorn = (script : Script) (history : List Call) → IsHistory script history → NamesLostRightly script history
+LostBlocksAreTorn = (script : Script) (history : List Call) → IsScript script → IsHistory script history → NamesLostRightly script history
 
 abbrev pub CausesStand : Type 0
-CausesStand = (script : Script) (history : List Call) → IsHistory script history → HasCauses script history
+CausesStand = (script : Script) (history : List Call) → IsScript script → IsHistory script history → HasCauses script history
 
 -- playing turns gives a history, whatever the turns and the faults
 abbrev pub SimIsHistory : Type 0

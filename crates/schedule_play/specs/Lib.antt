@@ -1,4 +1,5 @@
 pub mod Turns
+pub mod World
 pub mod RowStates
 pub mod Headline
 pub mod Laws

@@ -1,0 +1,48 @@
+//! Bays and hosts, stepped one request at a time.
+ghost use Rattle.std.specs.Prelude.{◌≡◌, ◌<◌, ◌^◌, List, slice_index_or, length, true, false};
+ghost use Rattle.raid_base.specs.declared.messages.Call.{Call};
+ghost use Rattle.script_text.specs.Script.{Script};
+
+use bay_device::Bay;
+use block_store::Store;
+use host_engine::Host;
+use raid_base::Turn;
+
+/// All bays and hosts of a script, and the turns so far.
+#[derive(Drop)]
+pub struct World<'s, D: Store> {
+    pub script: &'s script_text::Script,
+    pub hosts: Vec<Host<'s>>,
+    pub bays: Vec<Bay<D>>,
+    pub turns: Vec<Turn>,
+}
+
+impl<'s, D: Store> World<'s, D> {
+    ghost use Rattle.schedule_play.specs.World.{Shows, Turned, IsReady, AllTell, turn_of};
+    ghost use Rattle.host_engine.specs.declared.host.Host.{Host as HostView};
+
+    /// One request of the host at this place is handled and taken. False where the host has ended, and then nothing changes.
+    pub fn turn_at(&mut self, place: usize, moment: u64) -> bool
+        requires place { place < length self.old.hosts.items }
+        requires moment { moment < 2 ^ 40 }
+        requires ready { IsReady self.old }
+        ensures turned { (host : HostView) → host ≡ slice_index_or self.old.hosts.items place host → (script : Script) (history : List Call) → Shows script history self.old → Turned script (turn_of host moment) history self.new }
+        ensures tells { AllTell self.new.bays.items → AllTell self.old.bays.items }
+        ensures same { result ≡ false → self.new ≡ self.old }
+    {
+        let host = &self.hosts[place];
+        let (bay, ask) = match host.next(moment) {
+            Some(sent) => sent,
+            None => return false,
+        };
+        let device = &mut self.bays[bay.0 as usize];
+        let answer = device.handle(&ask);
+        let host = &mut self.hosts[place];
+        host.take(moment, &answer);
+        self.turns.push_reserved(Turn {
+            host: ask.host,
+            moment,
+        });
+        true
+    }
+}
