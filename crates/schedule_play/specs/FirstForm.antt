@@ -9,6 +9,7 @@ use Rattle.raid_base.specs.declared.jobs.Task.TheVariants as tasks
 use Rattle.raid_base.specs.declared.jobs.Job.{Job}
 use Rattle.raid_base.specs.Replies.{is_fault}
 use Rattle.script_text.specs.Script.{Script}
+use Rattle.script_text.specs.First.{IsFirstForm}
 use Rattle.host_engine.specs.History.{faults_in}
 use Rattle.schedule_play.specs.Turns.{all_ended, sim}
 use Rattle.schedule_play.specs.Headline.{IsSerialPlay, KeepsParity}
@@ -65,3 +66,7 @@ FirstPlaysAreSerial = (script : Script) (history : List Call) (most : ℕ) → I
 abbrev pub FirstPlaysKeepParity : Type 0
 FirstPlaysKeepParity = (script : Script) (history : List Call) (most : ℕ) → IsFirst script → history ≡ sim script (faults_in history) most →
     has_fault history ≡ false → KeepsParity script history
+
+-- Each script of the first form, as its text is read, is such a script.
+abbrev pub FirstFormsAreFirst : Type 0
+FirstFormsAreFirst = (script : Script) → IsFirstForm script → IsFirst script

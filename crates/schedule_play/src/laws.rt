@@ -1,5 +1,5 @@
 //! Laws of plays, each the contract of a function without a body.
-ghost use Rattle.schedule_play.specs.FirstForm.{FirstPlaysAreSerial, FirstPlaysKeepParity};
+ghost use Rattle.schedule_play.specs.FirstForm.{FirstPlaysAreSerial, FirstPlaysKeepParity, FirstFormsAreFirst};
 
 /// One host writes a block of a row of two units under stamps, and then reads it. Each such play in which no store fails
 /// and which comes to its end is serial: its results and contents are those of a serial array, and so is each block that
@@ -12,4 +12,9 @@ pub fn first_plays_are_serial()
 /// a missing slot is sound.
 pub fn first_plays_keep_parity()
     ensures { FirstPlaysKeepParity }
+{}
+
+/// What `script_text::read_first` takes for a script is such a script.
+pub fn first_forms_are_first()
+    ensures { FirstFormsAreFirst }
 {}
