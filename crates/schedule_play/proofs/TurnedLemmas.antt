@@ -1,5 +1,5 @@
 -- A world after a turn.
-use Rattle.std.proofs.Common.{◌≡◌, ◌≢◌, ℕ, ◌<◌, ◌^◌, zero, suc, Bool, true, false, eqb, Option, Some, None, List, [], ◌∷◌, ◌++◌, length, get_or, map, refl, sym, ap, subst, ◌∙◌, inl, inr, ◌⊎◌, arith, get_or-set_other, get_or-set_same, IsTrue}
+use Rattle.std.proofs.Common.{◌≡◌, ◌≢◌, ℕ, ◌<◌, ◌^◌, zero, suc, Bool, true, false, eqb, Option, Some, None, is_some, List, [], ◌∷◌, ◌++◌, length, get_or, map, refl, sym, ap, subst, ◌∙◌, inl, inr, ◌⊎◌, arith, get_or-set_other, get_or-set_same, IsTrue}
 use Rattle.std.proofs.Math.ListN.{set, length-set}
 use Rattle.std.proofs.lemmas.Bool.Decides.{eqb_tells}
 use Rattle.std.specs.Vec.{vec_capacity}
@@ -26,6 +26,10 @@ use Rattle.schedule_play.specs.World.{EachAt, HostShows, BayShows, AllTell, Lead
 use Rattle.schedule_play.proofs.WorldLemmas.{each-set, same_read, default-free, numbers-apart, host-other, host-here, bay-other, bay-here, told-next}
 use Rattle.schedule_play.proofs.TurnLemmas.{turn-facts, read-host, read-bay, pair-none, asked-again}
 
+pair-some : (o : Option Sent) → is_some (sent_pair o) ≡ is_some o
+pair-some None = refl
+pair-some (Some sent) = refl
+
 length-set-of : {X : Type 0} (xs : List X) (i : ℕ) (x : X) → length (set xs i x) ≡ length xs
 length-set-of xs i x = rw length-set refl
 
@@ -38,6 +42,17 @@ module _ {D : Type 0} {g : Ghosts D} where
   -- a world shows one script
   pub one-script : (script other : Script) (history earlier : List Call) (now : World D g) → Shows script history now → Shows other earlier now → script ≡ other
   one-script script other history earlier now s o = sym s.plays ∙ o.plays
+
+  -- a turn tells whether the host has asked
+  pub tells-asked : (script : Script) (history : List Call) (now : World D g) (place : ℕ) (host read : Host) (moment : ℕ) (result : Option (BayNo × Ask)) →
+      Shows script history now → place < length now.hosts.items → host ≡ get_or now.hosts.items place host → read ≡ get_or now.hosts.items place read →
+      ((s : Script) (h : HostNo) (p : Progress) → Stands s h read p → result ≡ sent_pair (asks h p moment)) →
+      is_some result ≡ is_some (asks host.no (progress_at script host.no history) moment)
+  tells-asked script history now place host read moment result s inside is at next =
+      let same : read ≡ host = same_read now.hosts.items place read host inside at is in
+      let hs = read-host script history now place read s inside at in
+      ap is_some (next script read.no (progress_at script read.no history) hs.stands) ∙ pair-some (asks read.no (progress_at script read.no history) moment)
+      ∙ ap (λ (h : Host). is_some (asks h.no (progress_at script h.no history) moment)) same
 
   -- where the host asks nothing all stays
   pub turned-none : (script : Script) (history : List Call) (now : World D g) (place : ℕ) (host read : Host) (moment : ℕ) (result : Option (BayNo × Ask)) →

@@ -1,5 +1,5 @@
 //! Bays and hosts, stepped one request at a time.
-ghost use Rattle.std.specs.Prelude.{◌≡◌, ◌<◌, ◌^◌, List, slice_index_or, length, true, false};
+ghost use Rattle.std.specs.Prelude.{◌≡◌, ◌<◌, ◌^◌, List, slice_index_or, length, is_some, true, false};
 ghost use Rattle.raid_base.specs.declared.messages.Call.{Call};
 ghost use Rattle.script_text.specs.Script.{Script};
 
@@ -19,6 +19,8 @@ pub struct World<'s, D: Store> {
 
 impl<'s, D: Store> World<'s, D> {
     ghost use Rattle.schedule_play.specs.World.{Shows, Turned, IsReady, AllTell, turn_of};
+    ghost use Rattle.host_engine.specs.Progress.{asks};
+    ghost use Rattle.host_engine.specs.History.{progress_at};
     ghost use Rattle.host_engine.specs.declared.host.Host.{Host as HostView};
 
     /// One request of the host at this place is handled and taken. False where the host has ended, and then nothing changes.
@@ -27,6 +29,7 @@ impl<'s, D: Store> World<'s, D> {
         requires moment { moment < 2 ^ 40 }
         requires ready { IsReady self.old }
         ensures turned { (host : HostView) → host ≡ slice_index_or self.old.hosts.items place host → (script : Script) (history : List Call) → Shows script history self.old → Turned script (turn_of host moment) history self.new }
+        ensures asked { (host : HostView) → host ≡ slice_index_or self.old.hosts.items place host → (script : Script) (history : List Call) → Shows script history self.old → result ≡ is_some (asks host.no (progress_at script host.no history) moment) }
         ensures tells { AllTell self.new.bays.items → AllTell self.old.bays.items }
         ensures same { result ≡ false → self.new ≡ self.old }
     {
