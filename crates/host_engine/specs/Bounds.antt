@@ -15,7 +15,7 @@ use Rattle.script_text.specs.Ranges.{IsScript}
 use Rattle.host_engine.specs.Plain.{task_parts, are_plain}
 use Rattle.host_engine.specs.Progress.{Progress, Ending, Work, Trying, Losing, Fitting, Over}
 
--- an attempt asks each of the n bays at most four times for each row
+-- an attempt asks the n bays, all together, at most four times each for each row
 abbrev pub parts_requests : ℕ → Result (List RowPart) PartsFault → ℕ
 parts_requests n (Ok parts) = 4 * n * length parts
 parts_requests n (Err fault) = 0
