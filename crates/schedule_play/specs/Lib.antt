@@ -1,5 +1,6 @@
 pub mod Turns
 pub mod World
+pub mod Faults
 pub mod RowStates
 pub mod Headline
 pub mod Laws

@@ -1,6 +1,7 @@
 //! Plays over bays and hosts.
 #![tactic(auto)]
 
+pub mod faults;
 pub mod laws;
 pub mod world;
 
