@@ -75,7 +75,7 @@ fn has_room_for_each_try(rt: HostRuntime) -> Result<(), Fail> {
     Ok(())
 }
 
-/// A reply to a request for a block of an array in use.
+/// A grant of a cell whose bytes are all this one, in a slot that was never written.
 fn granted(byte: u8) -> Reply {
     Reply::Granted {
         cell: Some(Cell {
