@@ -8,3 +8,6 @@ pub mod lookup;
 pub mod room;
 
 pub use host::Host;
+
+#[cfg(test)]
+mod tests;

@@ -1,0 +1,133 @@
+//! A host of the smallest array.
+ghost use Rattle.std.specs.Prelude.{◌<◌, IfOk};
+ghost use Rattle.script_text.specs.First.{IsFirstForm};
+
+use crate::attempt::Attempt;
+use crate::room::{contents_in, requests_in, task_parts};
+use crate::{Host, lookup};
+use place_numbers::Numbers;
+use raid_base::{
+    Ask, BayNo, Cell, Content, Ended, HostNo, How, Name, NoMemory, Number, PartsFault, Reply,
+    Request, RowNo, Task, fits,
+};
+use script_text::{Script, read_first};
+use std::alloc::Global;
+use std::test::Fail;
+
+const TEXT: &[u8] =
+    b"raid 1\ndevices 3\nrows 1\nmode order\npatience 3\ntries 2\nobject a 0\nhost 1\nwrite a 0 41\nread a 0 1\nend\n";
+
+fn smallest(alloc: Global) -> Result<Script, Fail>
+    ensures { IfOk result IsFirstForm }
+{
+    Ok(read_first(alloc, TEXT)?.ok_or("no script")?)
+}
+
+/// A host of a script of the first form.
+fn make<'s>(alloc: Global, no: HostNo, script: &'s Script) -> Result<Host<'s>, NoMemory>
+    requires host { no.0 < 16 }
+    requires form { IsFirstForm script.now }
+{
+    Host::make(alloc, no, script)
+}
+
+#[test]
+fn first_claims_the_parity(rt: HostRuntime) -> Result<(), Fail> {
+    let script = smallest(rt.alloc())?;
+    let host = make(rt.alloc(), HostNo(1), &script)?;
+    let claim = Ask {
+        host: HostNo(1),
+        clock: 0,
+        moment: 1,
+        what: Request::Claim {
+            row: RowNo(0),
+            id: Number(1),
+            how: How::Plain,
+            mask: 1,
+            want: false,
+        },
+    };
+    assert_eq!(rt; host.next(1), Some((BayNo(2), claim)));
+    assert!(rt; host.results().is_empty());
+    assert!(rt; host.read_contents().is_empty());
+    assert!(rt; host.transcript().is_empty());
+    let idle = make(rt.alloc(), HostNo(2), &script)?;
+    assert_eq!(rt; idle.next(1), None);
+    Ok(())
+}
+
+/// The greatest numbers of requests and contents of a host of a script of the first form.
+fn most_of(script: &Script, no: HostNo) -> (usize, usize)
+    requires form { IsFirstForm script.now }
+{
+    let jobs = lookup::jobs_of(script, no);
+    (requests_in(script, jobs), contents_in(jobs))
+}
+
+#[test]
+fn has_room_for_each_try(rt: HostRuntime) -> Result<(), Fail> {
+    let script = smallest(rt.alloc())?;
+    assert_eq!(rt; most_of(&script, HostNo(1)), (2 * 2 * 4 * 3, 1));
+    assert_eq!(rt; most_of(&script, HostNo(2)), (0, 0));
+    assert_eq!(rt; lookup::tries(&script), 2);
+    assert_eq!(rt; lookup::blocks_of(&script, 0, 1), [[0x41; 64]].as_slice());
+    assert!(rt; lookup::blocks_of(&script, 1, 1).is_empty());
+    Ok(())
+}
+
+/// A grant of a cell whose bytes are all this one, in a slot that was never written.
+fn granted(byte: u8) -> Reply {
+    Reply::Granted {
+        cell: Some(Cell {
+            bytes: [byte; 64],
+            lost: 0,
+        }),
+        read_no: Number(0),
+        write_no: Number(0),
+        last: Number(0),
+        life: 0,
+        seized: None,
+    }
+}
+
+#[test]
+fn reads_the_first_block(rt: HostRuntime) -> Result<(), Fail> {
+    let script = smallest(rt.alloc())?;
+    let object = Name::new(b"a").ok_or("no name")?;
+    let past = Task::Read {
+        object,
+        first: 1,
+        count: 2,
+    };
+    assert!(rt;
+        matches!(
+            task_parts(&script, &past),
+            Err(PartsFault::PastEnd { blocks: 2 })
+        )
+    );
+    let task = Task::Read {
+        object,
+        first: 0,
+        count: 1,
+    };
+    let parts = match task_parts(&script, &task) {
+        Ok(parts) => parts,
+        Err(_) => return Err("no parts")?,
+    };
+    let mut read = Attempt::begin(&script, Number(17), &task, parts);
+    let share = Request::Share {
+        row: RowNo(0),
+        id: Number(17),
+        want: true,
+    };
+    let next = read.next(&[]).ok_or("no request")?;
+    assert_eq!(rt; (next.bay, next.request), (BayNo(0), share));
+    let reply = granted(7);
+    if fits(&next.request, &reply) {
+        read.take(&[], &reply, &mut Numbers::new(HostNo(1)));
+    }
+    assert_eq!(rt; read.next(&[]), None);
+    assert_eq!(rt; read.end(), Some(Ended::Read { number: Number(17) }));
+    assert_eq!(rt; read.contents(), [Content::Bytes([7; 64])].as_slice());
+    Ok(())
+}
