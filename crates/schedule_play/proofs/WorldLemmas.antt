@@ -52,7 +52,7 @@ default-free (x ∷ xs) zero d e h = refl
 default-free (x ∷ xs) (suc i) d e h = default-free xs i d e (omega arith)
 
 -- host numbers that rise differ
-rise-least : (from : ℕ) (hosts : List HostNo) (k : ℕ) (d : HostNo) → Rise from hosts → k < length hosts → from + k ≤ (get_or hosts k d).0
+pub rise-least : (from : ℕ) (hosts : List HostNo) (k : ℕ) (d : HostNo) → Rise from hosts → k < length hosts → from + k ≤ (get_or hosts k d).0
 rise-least from [] k d r h = absurd (omega arith)
 rise-least from (host ∷ hosts) zero d r h = omega (arith, r.0)
 rise-least from (host ∷ hosts) (suc k) d r h = omega (arith, r.0, rise-least (host.0 + 1) hosts k d r.2 (omega arith))

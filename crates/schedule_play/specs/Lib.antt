@@ -1,5 +1,6 @@
 pub mod Turns
 pub mod World
+pub mod Plays
 pub mod Faults
 pub mod RowStates
 pub mod Headline

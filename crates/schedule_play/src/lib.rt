@@ -3,6 +3,7 @@
 
 pub mod faults;
 pub mod laws;
+mod playing;
 pub mod world;
 
 pub use world::World;

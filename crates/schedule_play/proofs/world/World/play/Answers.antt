@@ -1,0 +1,15 @@
+use Rattle.std.proofs.Common.{◌<◌, ◌^◌, ℕ, sym, ◌∙◌, ap, subst}
+use Rattle.schedule_play.specs.Turns.{last_moment}
+use Rattle.schedule_play.proofs.PlayLemmas.{last-small}
+use Rattle.schedule_play.proofs.world.World.play.Goals as goal
+
+pub play_rounds-requires-clause-moment : goal.play_rounds-requires-clause-moment
+play_rounds-requires-clause-moment g c =
+    subst (λ (m : ℕ). m < 2 ^ 40) (sym (c.last_moment-last.ensures ∙ ap last_moment c.turns.ensures)) (last-small c.args.self.now c.requires.ready)
+
+pub returns : goal.returns
+returns g c = record {
+  played = λ script shows.
+      c.play_rounds.ensures script (c.play_turns.ensures.played script shows)
+      (c.last_moment-last.ensures ∙ ap last_moment (c.turns.ensures ∙ ap (λ s. s.turns) shows.plays));
+}

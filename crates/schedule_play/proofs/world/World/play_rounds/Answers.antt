@@ -1,0 +1,39 @@
+use Rattle.std.proofs.Common.{◌<◌, ◌^◌, ℕ, sym, subst}
+use Rattle.schedule_play.proofs.PlayLemmas.{round-turn, round-smaller, round-ready, round-reaches, rounds-start, rounds-end, found-nothing, found-inside, next-small}
+use Rattle.schedule_play.proofs.world.World.play_rounds.Goals as goal
+
+pub loop-place-init : goal.loop-place-init
+loop-place-init g c = (c.requires.ready, c.requires.moment, λ script played at. rounds-start c.args.self.now c.args.last script played at)
+
+pub turn_at-requires-clause-place : goal.turn_at-requires-clause-place
+turn_at-requires-clause-place g c =
+    let r = c.loop-place.invariant.0 in
+    found-inside c.loop-place.self.hosts.items _ c.next_waiting.result c.in-Some.place c.in-Some.host (c.next_waiting.ensures r.script r.history r.shows) c.in-Some.is
+
+pub turn_at-requires-clause-moment : goal.turn_at-requires-clause-moment
+turn_at-requires-clause-moment g c = subst (λ (m : ℕ). m < 2 ^ 40) (sym c.next_moment-moment.ensures) (next-small c.loop-place.moment)
+
+pub turn_at-requires-clause-ready : goal.turn_at-requires-clause-ready
+turn_at-requires-clause-ready g c = c.loop-place.invariant.0
+
+pub loop-place-smaller : goal.loop-place-smaller
+loop-place-smaller g c =
+    round-smaller c.loop-place.self c.turn_at.new.self c.loop-place.invariant.0 c.loop-place.from c.next_moment-moment.result c.in-Some.host
+    (round-turn c.loop-place.self c.turn_at.new.self c.loop-place.invariant.0 c.in-Some.place c.loop-place.from c.next_moment-moment.result c.in-Some.host c.next_waiting.result c.next_waiting.ensures
+    c.in-Some.is c.turn_at.ensures.turned)
+
+pub loop-place-preserved : goal.loop-place-preserved
+loop-place-preserved g c =
+    let turn = round-turn c.loop-place.self c.turn_at.new.self c.loop-place.invariant.0 c.in-Some.place c.loop-place.from c.next_moment-moment.result c.in-Some.host c.next_waiting.result
+    c.next_waiting.ensures c.in-Some.is c.turn_at.ensures.turned in (
+      round-ready c.loop-place.self c.turn_at.new.self c.loop-place.invariant.0 c.loop-place.from c.next_moment-moment.result c.in-Some.host turn,
+      subst (λ (m : ℕ). m < 2 ^ 40) (sym c.next_moment-moment.ensures) (next-small c.loop-place.moment),
+      λ script played at. round-reaches c.loop-place.self c.turn_at.new.self c.loop-place.from c.loop-place.moment c.next_moment-moment.result c.in-Some.host c.next_moment-moment.ensures script
+          (turn script) (c.loop-place.invariant.2 script played at),
+    )
+
+pub returns : goal.returns
+returns g c script played at =
+    rounds-end c.loop-place.self c.loop-place.invariant.0 c.loop-place.from c.loop-place.moment script
+    (λ history shows. found-nothing c.loop-place.self.hosts.items _ c.next_waiting.result (c.next_waiting.ensures script history shows) c.in_default.not-Some)
+    (c.loop-place.invariant.2 script played at)

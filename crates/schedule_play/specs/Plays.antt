@@ -1,0 +1,49 @@
+-- A whole play of a world.
+use Rattle.std.specs.Prelude.{◌≡◌, ℕ, ◌<◌, ◌≤◌, ◌&&◌, nat_le, not, Bool, true, false, List, [], ◌∷◌, length, slice_index_or, Option, Some, None}
+use Rattle.raid_base.specs.declared.numbers.HostNo.{HostNo}
+use Rattle.raid_base.specs.declared.messages.Call.{Call}
+use Rattle.raid_base.specs.declared.messages.Turn.{Turn}
+use Rattle.block_store.specs.declared.store.Store.{Ghosts}
+use Rattle.script_text.specs.Script.{Script}
+use Rattle.host_engine.specs.declared.host.Host.{Host}
+use Rattle.host_engine.specs.History.{Faults, answered, faults_in, has_ended, journal, play}
+use Rattle.schedule_play.specs.Turns.{all_ended, sim}
+use Rattle.schedule_play.specs.World.{AllTell, Shows, all_requests}
+use Rattle.schedule_play.specs.declared.world.World.{World}
+
+-- the number of a host that has not ended
+abbrev pub unless_ended : Bool → HostNo → Option HostNo
+unless_ended true host = None
+unless_ended false host = Some host
+
+-- from this number on, and not ended
+abbrev pub waits : Script → List Call → ℕ → HostNo → Bool
+waits script history from host = nat_le from host.0 && not (has_ended script history host)
+
+-- the place and the number of this host
+abbrev pub IsFound : List Host → Option HostNo → Option (ℕ × HostNo) → Type 0
+IsFound hosts wanted None = wanted ≡ None
+IsFound hosts wanted (Some (place, number)) = (wanted ≡ Some number) × (place < length hosts) × ((host : Host) → host ≡ slice_index_or hosts place host → host.no ≡ number)
+
+-- each call is what its bay answers with these faults
+abbrev pub Told : Script → Faults → List Call → Type 0
+Told script faults [] = Unit {0}
+Told script faults (call ∷ earlier) =
+    Told script faults earlier
+    × (call ≡ answered script earlier (record { bay = call.bay; ask = call.ask }) (faults call.bay (length (journal call.bay earlier))))
+
+-- a history that these turns give, with the faults that it tells
+abbrev pub Plays : Script → List Turn → List Call → Type 0
+Plays script turns history = (faults : Faults) → Told script faults history → play script faults [] turns ≡ history
+
+pub record HasPlayed {D : Type 0} {g : Ghosts D} (script : Script) (turns : List Turn) (now : World D g) : Type 0 where
+  pub history : List Call
+  pub shows : Shows script history now
+  pub plays : Plays script turns history
+
+-- the world is where the simulator's play ends, with the faults that it tells
+pub record Played {D : Type 0} {g : Ghosts D} (script : Script) (now : World D g) : Type 0 where
+  pub history : List Call
+  pub shows : Shows script history now
+  pub ended : all_ended script history ≡ true
+  pub simulated : AllTell now.bays.items → (most : ℕ) → all_requests script ≤ most → history ≡ sim script (faults_in history) most
