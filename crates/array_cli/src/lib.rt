@@ -1,0 +1,8 @@
+//! The program's parts that touch the outside: what it reads, which words it takes, and the number that it exits with.
+#![tactic(auto)]
+
+pub mod input;
+#[cfg(test)]
+mod tests;
+
+pub use input::{InputFault, read_all};
