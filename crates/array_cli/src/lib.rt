@@ -4,5 +4,7 @@
 pub mod input;
 #[cfg(test)]
 mod tests;
+pub mod words;
 
 pub use input::{InputFault, read_all};
+pub use words::{exit_number, is_sim};
