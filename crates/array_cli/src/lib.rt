@@ -1,0 +1,10 @@
+//! The program's parts that touch the outside: what it reads, which words it takes, and the number that it exits with.
+#![tactic(auto)]
+
+pub mod input;
+#[cfg(test)]
+mod tests;
+pub mod words;
+
+pub use input::{InputFault, read_all};
+pub use words::{exit_number, is_sim};
