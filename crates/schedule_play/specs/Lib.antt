@@ -1,5 +1,6 @@
 pub mod Turns
 pub mod World
+pub mod Making
 pub mod Plays
 pub mod Faults
 pub mod RowStates

@@ -3,7 +3,9 @@
 
 pub mod faults;
 pub mod laws;
+pub mod making;
 mod playing;
 pub mod world;
 
+pub use making::WorldFault;
 pub use world::World;

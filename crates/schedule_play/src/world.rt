@@ -9,12 +9,15 @@ use host_engine::Host;
 use raid_base::Turn;
 
 /// All bays and hosts of a script, and the turns so far.
+///
+/// The stores that were given beyond those of the bays stay as they were.
 #[derive(Drop)]
 pub struct World<'s, D: Store> {
     pub script: &'s script_text::Script,
     pub hosts: Vec<Host<'s>>,
     pub bays: Vec<Bay<D>>,
     pub turns: Vec<Turn>,
+    pub others: Vec<D>,
 }
 
 impl<'s, D: Store> World<'s, D> {
