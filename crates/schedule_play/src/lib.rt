@@ -5,7 +5,9 @@ pub mod faults;
 pub mod laws;
 pub mod making;
 mod playing;
+pub mod results;
 pub mod world;
 
 pub use making::WorldFault;
+pub use results::{collect_contents, collect_results};
 pub use world::World;
