@@ -4,3 +4,4 @@ pub mod RowStates
 pub mod Headline
 pub mod Laws
 pub mod FirstForm
+pub mod Rows
