@@ -7,3 +7,4 @@ pub mod RowStates
 pub mod Headline
 pub mod Laws
 pub mod FirstForm
+pub mod Rows

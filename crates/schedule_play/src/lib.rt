@@ -6,6 +6,7 @@ pub mod laws;
 pub mod making;
 mod playing;
 pub mod results;
+pub mod rows;
 pub mod world;
 
 pub use making::WorldFault;

@@ -1,0 +1,28 @@
+use Rattle.std.proofs.Common.{length, refl, arith}
+use Rattle.schedule_play.proofs.RowLemmas.{looked-all, failed-since, tell-kept, shows-kept, rows-more, opened-more, one-row, after-all}
+use Rattle.schedule_play.proofs.rows.read_rows.Goals as goal
+
+pub returns-in_err-read_row-clause-failed : goal.returns-in_err-read_row-clause-failed
+returns-in_err-read_row-clause-failed g c = λ h. failed-since c.args.bays.now c.loop-row.bays c.read_row.new.bays c.loop-row.invariant.0 (c.in_err-read_row.ensures.failed refl)
+
+pub loop-row-preserved : goal.loop-row-preserved
+loop-row-preserved g c =
+    let i = c.loop-row.invariant in
+    let e = c.in_ok-read_row.ensures in (
+      looked-all c.args.bays.now c.loop-row.bays c.read_row.new.bays i.0 c.read_row.ensures.looked,
+      λ tell. rows-more c.args.bays.now c.loop-row.bays c.loop-row.row c.args.cells.now.items c.loop-row.cells.items c.read_row.new.cells.items i.0 (i.1 tell)
+          (e.cells (tell-kept c.args.bays.now c.loop-row.bays tell i.0)),
+      opened-more c.args.bays.now c.loop-row.bays c.loop-row.row c.args.opened.now.items c.loop-row.opened.items c.push_reserved.new.self.items c.is_open.result i.0 i.2 c.is_open.ensures c.push_reserved.ensures.items,
+      omega (arith, i, e.count, i.0.count, one-row c.loop-row.row (length c.args.bays.now)),
+      omega (arith, i, c.push_reserved.ensures.len),
+      omega (arith, e.capacity, i),
+      omega (arith, c.push_reserved.ensures.capacity, i),
+    )
+
+pub returns-clause-after : goal.returns-clause-after
+returns-clause-after g c = λ script history show all.
+    after-all script history c.args.bays.now c.loop-row.row c.args.cells.now.items c.loop-row.cells.items c.args.opened.now.items c.loop-row.opened.items
+    show (omega (arith, all)) (c.loop-row.invariant.1 show.told) c.loop-row.invariant.2
+
+pub returns-clause-shows : goal.returns-clause-shows
+returns-clause-shows g c = λ script history shows. shows-kept script history c.args.bays.now c.loop-row.bays c.loop-row.invariant.0 shows
