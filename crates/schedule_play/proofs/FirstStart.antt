@@ -1,6 +1,6 @@
 -- A script of the first form can be played.
 use Rattle.std.proofs.Common.{◌≡◌, ℕ, ◌+◌, ◌-◌, ◌*◌, ◌^◌, ◌<◌, ◌≤◌, ◌==◌, Bool, true, false, List, [], ◌∷◌, length, Option, Some, None, refl, sym, ap, subst, ◌∙◌, arith, eq-eqb, get_or}
-use Rattle.std.specs.Prelude.{find, sum_by, Result, Ok, Err}
+use Rattle.std.specs.Prelude.{sum_by, Result, Ok, Err}
 use Rattle.std.proofs.lemmas.Nat.{mul-le}
 use Rattle.std.proofs.lemmas.List.Sums.{sum_by-cons}
 use Rattle.raid_base.specs.declared.numbers.HostNo.{HostNo}
@@ -8,7 +8,7 @@ use Rattle.raid_base.specs.declared.jobs.Job.{Job}
 use Rattle.raid_base.specs.declared.jobs.Task.TheVariants.{Recover}
 use Rattle.raid_base.specs.declared.jobs.RowPart.{RowPart}
 use Rattle.raid_base.specs.declared.jobs.PartsFault.{PartsFault}
-use Rattle.script_text.specs.Script.{Script, jobs_of, parts_of, host_numbers}
+use Rattle.script_text.specs.Script.{Script, jobs_of, parts_of}
 use Rattle.script_text.specs.First.{IsForm, IsFirstForm, script_of, jobs_of as both}
 use Rattle.script_text.specs.declared.first.FirstForm.{FirstForm}
 use Rattle.script_text.proofs.FirstScripts.{first_is_script}

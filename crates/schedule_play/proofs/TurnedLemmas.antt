@@ -87,6 +87,12 @@ module _ {D : Type 0} {g : Ghosts D} where
           let apart : k ≢ i = e.1 in
           subst (λ (b : Bay D g). IsTrue (g.tells b.store)) (get_or-set_other bays i k new d apart) there
 
+  pub tells-on : (bays : List (Bay D g)) (i : ℕ) (old new : Bay D g) → i < length bays → old ≡ get_or bays i old → g.tells new.store ≡ g.tells old.store →
+      AllTell bays → AllTell (set bays i new)
+  tells-on bays i old new inside is tells all =
+      each-set (λ k now. IsTrue (g.tells now.store)) (λ k now. IsTrue (g.tells now.store)) bays i new all (λ k d within apart other. other)
+      (subst (λ (b : Bool). IsTrue b) (sym tells) (subst (λ (b : Bay D g). IsTrue (g.tells b.store)) (sym is) (all i old inside)))
+
   -- what a bay does in a turn
   pub record BayTurn (old new : Bay D g) (ask : Ask) (given : Answer) : Type 0 where
     pub told : IsTrue (g.tells old.store) → Handled old.slots (g.content old.store) ask given.reply new.slots (g.content new.store)

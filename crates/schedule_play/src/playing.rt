@@ -53,7 +53,7 @@ fn next_moment(moment: u64) -> u64
 
 impl<'s, D: Store> World<'s, D> {
     ghost use Rattle.std.specs.Prelude.{find};
-    ghost use Rattle.schedule_play.specs.World.{Shows, Turned, IsReady};
+    ghost use Rattle.schedule_play.specs.World.{Shows, Turned, IsReady, AllTell};
     ghost use Rattle.schedule_play.specs.Plays.{IsFound, waits, HasPlayed, Played};
 
     /// The first host from this number on that has not ended: its place and number.
@@ -87,7 +87,9 @@ impl<'s, D: Store> World<'s, D> {
         requires ready { IsReady self.old }
         requires host { Contains (host_numbers self.old.script.now) turn.now.host }
         requires moment { turn.now.moment < 2 ^ 40 }
-        ensures { (script : Script) (history : List Call) → Shows script history self.old → Turned script turn.now history self.new }
+        ensures turned { (script : Script) (history : List Call) → Shows script history self.old → Turned script turn.now history self.new }
+        ensures telling { AllTell self.old.bays.items → AllTell self.new.bays.items }
+        ensures others { self.new.others ≡ self.old.others }
     {
         if let Some((place, host)) = self.first_waiting(turn.host.0 as u16) {
             if host == turn.host {
@@ -101,6 +103,8 @@ impl<'s, D: Store> World<'s, D> {
         requires ready { IsReady self.old }
         ensures ready { IsReady self.new }
         ensures played { (script : Script) → Shows script [] self.old → HasPlayed script script.turns self.new }
+        ensures telling { AllTell self.old.bays.items → AllTell self.new.bays.items }
+        ensures others { self.new.others ≡ self.old.others }
     {
         for turn in turns(self.script) {
             self.take_turn(turn);
@@ -111,7 +115,9 @@ impl<'s, D: Store> World<'s, D> {
     fn play_rounds(&mut self, last: u64)
         requires ready { IsReady self.old }
         requires moment { last < 2 ^ 40 }
-        ensures { (script : Script) → HasPlayed script script.turns self.old → last ≡ last_moment script.turns → Played script self.new }
+        ensures played { (script : Script) → HasPlayed script script.turns self.old → last ≡ last_moment script.turns → Played script self.new }
+        ensures telling { AllTell self.old.bays.items → AllTell self.new.bays.items }
+        ensures others { self.new.others ≡ self.old.others }
     {
         let mut from = 0;
         let mut moment = last;
@@ -126,6 +132,8 @@ impl<'s, D: Store> World<'s, D> {
     pub fn play(&mut self)
         requires ready { IsReady self.old }
         ensures played { (script : Script) → Shows script [] self.old → Played script self.new }
+        ensures telling { AllTell self.old.bays.items → AllTell self.new.bays.items }
+        ensures others { self.new.others ≡ self.old.others }
     {
         let last = last_moment(turns(self.script));
         self.play_turns();

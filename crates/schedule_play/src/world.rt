@@ -34,6 +34,8 @@ impl<'s, D: Store> World<'s, D> {
         ensures turned { (host : HostView) → host ≡ slice_index_or self.old.hosts.items place host → (script : Script) (history : List Call) → Shows script history self.old → Turned script (turn_of host moment) history self.new }
         ensures asked { (host : HostView) → host ≡ slice_index_or self.old.hosts.items place host → (script : Script) (history : List Call) → Shows script history self.old → result ≡ is_some (asks host.no (progress_at script host.no history) moment) }
         ensures tells { AllTell self.new.bays.items → AllTell self.old.bays.items }
+        ensures telling { AllTell self.old.bays.items → AllTell self.new.bays.items }
+        ensures others { self.new.others ≡ self.old.others }
         ensures same { result ≡ false → self.new ≡ self.old }
     {
         let host = &self.hosts[place];

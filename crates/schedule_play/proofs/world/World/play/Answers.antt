@@ -7,9 +7,13 @@ pub play_rounds-requires-clause-moment : goal.play_rounds-requires-clause-moment
 play_rounds-requires-clause-moment g c =
     subst (λ (m : ℕ). m < 2 ^ 40) (sym (c.last_moment-last.ensures ∙ ap last_moment c.turns.ensures)) (last-small c.args.self.now c.requires.ready)
 
-pub returns : goal.returns
-returns g c = record {
-  played = λ script shows.
-      c.play_rounds.ensures script (c.play_turns.ensures.played script shows)
-      (c.last_moment-last.ensures ∙ ap last_moment (c.turns.ensures ∙ ap (λ s. s.turns) shows.plays));
-}
+pub returns-clause-played : goal.returns-clause-played
+returns-clause-played g c script shows =
+    c.play_rounds.ensures.played script (c.play_turns.ensures.played script shows)
+    (c.last_moment-last.ensures ∙ ap last_moment (c.turns.ensures ∙ ap (λ s. s.turns) shows.plays))
+
+pub returns-clause-telling : goal.returns-clause-telling
+returns-clause-telling g c = λ all. c.play_rounds.ensures.telling (c.play_turns.ensures.telling all)
+
+pub returns-clause-others : goal.returns-clause-others
+returns-clause-others g c = c.play_rounds.ensures.others ∙ c.play_turns.ensures.others

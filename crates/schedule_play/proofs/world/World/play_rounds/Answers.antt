@@ -1,9 +1,9 @@
-use Rattle.std.proofs.Common.{◌<◌, ◌^◌, ℕ, sym, subst}
+use Rattle.std.proofs.Common.{◌<◌, ◌^◌, ℕ, sym, subst, refl, ◌∙◌}
 use Rattle.schedule_play.proofs.PlayLemmas.{round-turn, round-smaller, round-ready, round-reaches, rounds-start, rounds-end, found-nothing, found-inside, next-small}
 use Rattle.schedule_play.proofs.world.World.play_rounds.Goals as goal
 
 pub loop-place-init : goal.loop-place-init
-loop-place-init g c = (c.requires.ready, c.requires.moment, λ script played at. rounds-start c.args.self.now c.args.last script played at)
+loop-place-init g c = (c.requires.ready, c.requires.moment, (λ all. all), refl, λ script played at. rounds-start c.args.self.now c.args.last script played at)
 
 pub turn_at-requires-clause-place : goal.turn_at-requires-clause-place
 turn_at-requires-clause-place g c =
@@ -28,12 +28,20 @@ loop-place-preserved g c =
     c.next_waiting.ensures c.in-Some.is c.turn_at.ensures.turned in (
       round-ready c.loop-place.self c.turn_at.new.self c.loop-place.invariant.0 c.loop-place.from c.next_moment-moment.result c.in-Some.host turn,
       subst (λ (m : ℕ). m < 2 ^ 40) (sym c.next_moment-moment.ensures) (next-small c.loop-place.moment),
+      (λ all. c.turn_at.ensures.telling (c.loop-place.invariant.2 all)),
+      c.turn_at.ensures.others ∙ c.loop-place.invariant.3,
       λ script played at. round-reaches c.loop-place.self c.turn_at.new.self c.loop-place.from c.loop-place.moment c.next_moment-moment.result c.in-Some.host c.next_moment-moment.ensures script
-          (turn script) (c.loop-place.invariant.2 script played at),
+          (turn script) (c.loop-place.invariant.4 script played at),
     )
 
-pub returns : goal.returns
-returns g c script played at =
+pub returns-clause-played : goal.returns-clause-played
+returns-clause-played g c script played at =
     rounds-end c.loop-place.self c.loop-place.invariant.0 c.loop-place.from c.loop-place.moment script
     (λ history shows. found-nothing c.loop-place.self.hosts.items _ c.next_waiting.result (c.next_waiting.ensures script history shows) c.in_default.not-Some)
-    (c.loop-place.invariant.2 script played at)
+    (c.loop-place.invariant.4 script played at)
+
+pub returns-clause-telling : goal.returns-clause-telling
+returns-clause-telling g c = c.loop-place.invariant.2
+
+pub returns-clause-others : goal.returns-clause-others
+returns-clause-others g c = c.loop-place.invariant.3

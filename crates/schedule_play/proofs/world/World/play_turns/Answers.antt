@@ -3,7 +3,7 @@ use Rattle.schedule_play.proofs.PlayLemmas.{turn-of-script, turned-ready, played
 use Rattle.schedule_play.proofs.world.World.play_turns.Goals as goal
 
 pub loop-turn-init : goal.loop-turn-init
-loop-turn-init g c = (c.requires.ready, refl, λ script shows. played-none c.args.self.now script shows)
+loop-turn-init g c = (c.requires.ready, refl, (λ all. all), refl, λ script shows. played-none c.args.self.now script shows)
 
 pub take_turn-requires-clause-ready : goal.take_turn-requires-clause-ready
 take_turn-requires-clause-ready g c = c.loop-turn.invariant.0
@@ -18,11 +18,13 @@ take_turn-requires-clause-host g c =
 
 pub loop-turn-preserved : goal.loop-turn-preserved
 loop-turn-preserved g c =
-    let next = turned-ready c.loop-turn.self c.take_turn.new.self c.loop-turn.invariant.0 _ c.take_turn.ensures in (
+    let next = turned-ready c.loop-turn.self c.take_turn.new.self c.loop-turn.invariant.0 _ c.take_turn.ensures.turned in (
       next.0,
       next.1 ∙ c.loop-turn.invariant.1,
+      (λ all. c.take_turn.ensures.telling (c.loop-turn.invariant.2 all)),
+      c.take_turn.ensures.others ∙ c.loop-turn.invariant.3,
       λ script shows. played-more c.loop-turn.self c.take_turn.new.self script c.turns-turn-items.result.now c.loop-turn.turn-index _ (c.turns-turn-items.ensures ∙ ap (λ s. s.turns) shows.plays) c.loop-turn-test.true
-          c.take_turn.ensures (c.loop-turn.invariant.2 script shows),
+          c.take_turn.ensures.turned (c.loop-turn.invariant.4 script shows),
     )
 
 pub returns-clause-ready : goal.returns-clause-ready
@@ -30,4 +32,10 @@ returns-clause-ready g c = c.loop-turn.invariant.0
 
 pub returns-clause-played : goal.returns-clause-played
 returns-clause-played g c script shows =
-    played-all c.loop-turn.self script c.turns-turn-items.result.now c.loop-turn.turn-index (c.turns-turn-items.ensures ∙ ap (λ s. s.turns) shows.plays) c.loop-turn-test.false (c.loop-turn.invariant.2 script shows)
+    played-all c.loop-turn.self script c.turns-turn-items.result.now c.loop-turn.turn-index (c.turns-turn-items.ensures ∙ ap (λ s. s.turns) shows.plays) c.loop-turn-test.false (c.loop-turn.invariant.4 script shows)
+
+pub returns-clause-telling : goal.returns-clause-telling
+returns-clause-telling g c = c.loop-turn.invariant.2
+
+pub returns-clause-others : goal.returns-clause-others
+returns-clause-others g c = c.loop-turn.invariant.3

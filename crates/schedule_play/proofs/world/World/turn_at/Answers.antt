@@ -5,7 +5,7 @@ use Rattle.script_text.specs.Script.{Script}
 use Rattle.host_engine.specs.Bounds.{IsPlayable}
 use Rattle.schedule_play.specs.World.{all_requests}
 use Rattle.schedule_play.proofs.TurnLemmas.{turn-facts, read-bay, ask-fits-bay, can-take}
-use Rattle.schedule_play.proofs.TurnedLemmas.{one-script, tells-asked, tells-back, turned-none, turned-some}
+use Rattle.schedule_play.proofs.TurnedLemmas.{one-script, tells-asked, tells-back, tells-on, turned-none, turned-some}
 use Rattle.schedule_play.proofs.WorldLemmas.{same_read}
 use Rattle.schedule_play.proofs.world.World.turn_at.Goals as goal
 
@@ -90,3 +90,10 @@ pub returns-clause-asked : goal.returns-clause-asked
 returns-clause-asked g c = λ host is script history shows.
     sym (ap is_some c.in-Some.is)
     ∙ tells-asked script history c.args.self.now c.args.place host c.index-host.result.now c.args.moment c.next.result shows c.requires.place is c.index-host.ensures c.next.ensures
+
+pub returns-clause-telling : goal.returns-clause-telling
+returns-clause-telling g c =
+    let r = c.requires.ready in
+    let f = turn-facts r.script r.history c.args.self.now c.args.place c.index-host.result.now c.args.moment c.in-Some.sent.0 c.in-Some.sent.1 c.next.result
+    r.playable r.few r.shows c.requires.place c.index-host.ensures c.next.ensures c.in-Some.is in
+    tells-on c.args.self.now.bays.items c.in-Some.sent.0.0 c.index_mut-device.result.now c.handle-answer.new.self f.inside c.index_mut-device.ensures.value c.handle-answer.ensures.store.0
