@@ -2,9 +2,11 @@
 #![tactic(auto)]
 
 pub mod input;
+pub mod run;
 #[cfg(test)]
 mod tests;
 pub mod words;
 
 pub use input::{InputFault, read_all};
+pub use run::sim;
 pub use words::{exit_number, is_sim};

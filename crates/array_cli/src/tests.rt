@@ -1,12 +1,17 @@
-//! Inputs of a size that is taken, of one byte more, and of a source that fails; words and exit numbers.
+//! Inputs of a size that is taken, of one byte more, and of a source that fails; words and exit numbers; the smallest run.
 
-use crate::{InputFault, exit_number, is_sim, read_all};
-use raid_base::{BayNo, Kind, MemorySource, Status};
+use crate::{InputFault, exit_number, is_sim, read_all, sim};
+use block_store::MemoryStore;
+use raid_base::{BayNo, Kind, MemorySink, MemorySource, Status};
 use std::test::Fail;
 
 /// One host writes a block and reads it.
 const SCRIPT: &[u8] =
     b"raid 1\ndevices 3\nrows 1\nmode order\npatience 3\ntries 2\nobject a 0\nhost 1\nwrite a 0 41\nread a 0 1\nend\n";
+
+/// The report of its play: six requests of the write, and one of the read.
+const REPORT: &[u8] =
+    b"report 1\njob 1 0 wrote 1\njob 1 1 read 17 41\nturns 7\nturn 1 1\nturn 1 2\nturn 1 3\nturn 1 4\nturn 1 5\nturn 1 6\nturn 1 7\nblock a 0 41\nblock a 1 00\nrow 0 closed\nend\n";
 
 #[test]
 fn a_small_script_is_given_back_whole(rt: HostRuntime) -> Result<(), Fail> {
@@ -100,4 +105,31 @@ fn each_status_has_its_exit_number(rt: HostRuntime) {
     for (status, number) in table {
         assert_eq!(rt; exit_number(status), number);
     }
+}
+
+#[test]
+fn the_smallest_script_is_played(rt: HostRuntime) -> Result<(), Fail> {
+    let alloc = rt.alloc();
+    let mut source = MemorySource::make(SCRIPT.to_vec(alloc)?, vec![in alloc; 9]?);
+    let mut sink = MemorySink::make(alloc, 4_096, vec![in alloc; 99]?)?;
+    let mut stores = Vec::new(alloc);
+    for _ in 0..4 {
+        stores.push(MemoryStore::make(alloc, 2)?)?;
+    }
+    let status = sim(alloc, &mut source, &mut sink, stores);
+    assert_eq!(rt; status, Status::Done);
+    assert_eq!(rt; sink.written(), REPORT);
+    Ok(())
+}
+
+#[test]
+fn two_stores_are_too_few(rt: HostRuntime) -> Result<(), Fail> {
+    let alloc = rt.alloc();
+    let mut source = MemorySource::make(SCRIPT.to_vec(alloc)?, vec![in alloc; 9]?);
+    let mut sink = MemorySink::make(alloc, 4_096, vec![in alloc; 99]?)?;
+    let stores = vec![in alloc; MemoryStore::make(alloc, 1)?, MemoryStore::make(alloc, 1)?]?;
+    let status = sim(alloc, &mut source, &mut sink, stores);
+    assert_eq!(rt; status, Status::TooFewStores { have: 2, need: 3 });
+    assert!(rt; sink.written().is_empty());
+    Ok(())
 }
