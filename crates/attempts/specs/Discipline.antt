@@ -73,8 +73,8 @@ pub record IsAccess (a : Access) (rows units : ℕ) : Type 0 where
   pub within : AllByRecursion (λ (part : RowPart). part.row.0 < rows) a.parts
   pub covered : sum_by (λ (part : RowPart). length (units_in a.n part.mask)) a.parts ≤ units
 
--- Every read and every write keeps to this: it asks within the array, each bay at most four times for each of its rows,
--- and a read gives no more contents than it has units.
+-- Every read and every write keeps to this: it asks within the array, all bays together at most four times for each
+-- slot of its rows, and a read gives no more contents than it has units.
 abbrev pub ReadsObey : Type 0
 ReadsObey = (a : Access) (rows count : ℕ) → IsAccess a rows count → Obeys (IsWithin a.n rows) (IsPlainFinish count) (4 * a.n * length a.parts) (read_steps a)
 
