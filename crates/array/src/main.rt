@@ -1,7 +1,10 @@
 //! The program `array`: `array sim` reads a script, plays it over devices in memory, and prints its report.
 #![tactic(auto)]
 
-use array_cli::{exit_number, is_sim, sim};
+ghost use Rattle.std.specs.Prelude.{◌≡◌, IfOk, replicate};
+ghost use Rattle.raid_base.specs.Cells.{zeros};
+
+use array_cli::{array, exit_number};
 use block_store::MemoryStore;
 use raid_base::streams::standard::{ReaderSource, WriterSink};
 use raid_base::{NoMemory, Status};
@@ -19,26 +22,27 @@ fn words(rt: &HostRuntime) -> Result<Vec<String>, NoMemory> {
     Ok(words)
 }
 
-/// 16 devices of 4,096 blocks.
-fn devices(alloc: Global) -> Result<Vec<MemoryStore>, NoMemory> {
+/// So many devices of so many blocks of zeros.
+fn devices(alloc: Global, count: u8, blocks: u32) -> Result<Vec<MemoryStore>, NoMemory>
+    ensures { IfOk result (λ stores. stores.items ≡ replicate count (replicate blocks zeros)) }
+{
     let mut stores = Vec::new(alloc);
-    for _device in 0..16 {
-        let store = MemoryStore::make(alloc, 4_096)?;
+    for _device in 0..count {
+        let store = MemoryStore::make(alloc, blocks)?;
         stores.push(store).map_err(|_| NoMemory)?;
     }
     Ok(stores)
 }
 
-/// Does what the words say.
+/// Does what the words say, over standard input and output.
 fn run(rt: &HostRuntime) -> Result<Status, NoMemory> {
+    let alloc = rt.alloc();
     let words = words(rt)?;
-    if !is_sim(words.as_slice()) {
-        return Ok(Status::NotYet);
-    }
-    let stores = devices(rt.alloc())?;
+    let stores = devices(alloc, 16, 4_096)?;
     let mut source = ReaderSource::over(rt.reader());
     let mut sink = WriterSink::over(io::writer(rt));
-    Ok(sim(rt.alloc(), &mut source, &mut sink, stores))
+    let outcome = array(alloc, words.as_slice(), &mut source, &mut sink, stores);
+    Ok(outcome.status)
 }
 
 fn main(rt: HostRuntime) -> ExitCode {

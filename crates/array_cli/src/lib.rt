@@ -8,5 +8,5 @@ mod tests;
 pub mod words;
 
 pub use input::{InputFault, read_all};
-pub use run::sim;
+pub use run::{Outcome, array, sim_call};
 pub use words::{exit_number, is_sim};

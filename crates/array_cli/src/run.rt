@@ -1,155 +1,167 @@
 //! A run of a script from its text to its report.
-ghost use Rattle.std.specs.Prelude.{◌≡◌, ◌<◌, ◌++◌, IfOk, IsTrue, [], true};
-ghost use Rattle.schedule_play.specs.World.{AllTell, EachAt, Shows};
-ghost use Rattle.script_text.specs.Script.{Script as ScriptValue};
+ghost use Rattle.std.specs.Prelude.{◌≡◌, ◌++◌, map, string_bytes};
+ghost use Rattle.schedule_play.specs.Gathering.{IsClosable};
+ghost use Rattle.schedule_play.specs.Making.{stores_of};
 ghost use Rattle.script_text.specs.First.{IsFirstForm};
-ghost use Rattle.raid_base.specs.declared.status.Status.TheVariants.{Done};
 ghost use Rattle.report_text.specs.Report.{report_text};
 ghost use Rattle.report_text.specs.Views.{report_in};
-ghost use Rattle.array_cli.specs.Runs.{IsBlank, IsAtStart, IsRead, IsReported, IsRun};
+ghost use Rattle.raid_base.specs.declared.status.Status.TheVariants.{StoreFault};
+ghost use Rattle.array_cli.specs.Runs.{AreSim, HasPrinted, IsCall, IsEmpty, IsNotYet, IsRefused, IsScriptPlayed};
 
 use crate::input::{InputFault, read_all};
+use crate::words::is_sim;
 use block_store::Store;
-use raid_base::{BayNo, Cell, Content, JobResult, NoMemory, Sink, Source, Status};
-use report_text::{Final, write_report};
+use raid_base::{BayNo, Entry, JobResult, Sink, Source, Status, Turn};
+use report_text::write_report;
 use schedule_play::faults::fault_bay;
-use schedule_play::laws::{first_plays_are_serial, first_plays_keep_parity};
-use schedule_play::rows::read_rows;
-use schedule_play::{World, WorldFault, collect_contents, collect_results};
+use schedule_play::{World, WorldFault};
 use script_text::{Script, read_first};
 use std::alloc::Global;
 
 /// How many bytes a script may have for now.
 const MOST_BYTES: usize = 65_536;
 
-/// What is read of a world at its end. All room is taken before its first turn.
+/// What a call hands out: how it has ended, all stores in order, the journals of the devices, the results and the turns.
+///
+/// Journals, results and turns are empty where the play has not come to its end.
 #[derive(Drop)]
-struct Ending {
-    results: Vec<JobResult>,
-    contents: Vec<Content>,
-    cells: Vec<Option<Cell>>,
-    opened: Vec<bool>,
+pub struct Outcome<D> {
+    pub status: Status,
+    pub stores: Vec<D>,
+    pub journals: Vec<Vec<Entry>>,
+    pub results: Vec<JobResult>,
+    pub turns: Vec<Turn>,
 }
 
-impl Ending {
-    fn make(alloc: Global) -> Result<Ending, NoMemory>
-        ensures { IfOk result IsBlank }
+impl<D> Outcome<D> {
+    /// An end before the report: with the stores alone.
+    fn early(alloc: Global, status: Status, stores: Vec<D>) -> Outcome<D>
+        ensures status { result.status ≡ status }
+        ensures stores { result.stores ≡ stores }
+        ensures empty { IsEmpty result }
     {
-        Ok(Ending {
-            results: Vec::with_capacity(alloc, 2).map_err(|_| NoMemory)?,
-            contents: Vec::with_capacity(alloc, 1).map_err(|_| NoMemory)?,
-            cells: Vec::with_capacity(alloc, 3).map_err(|_| NoMemory)?,
-            opened: Vec::with_capacity(alloc, 1).map_err(|_| NoMemory)?,
-        })
+        Outcome {
+            status,
+            stores,
+            journals: Vec::new(alloc),
+            results: Vec::new(alloc),
+            turns: Vec::new(alloc),
+        }
     }
 }
 
-/// How many rows a script's array has.
-fn row_count(script: &Script) -> u16
-    ensures { result ≡ script.now.rows }
-{
-    script.rows
-}
-
-/// Plays a world to its end and reads what it leaves.
-fn finish<D: Store>(world: &mut World<'_, D>, ending: &mut Ending) -> Result<(), BayNo>
-    requires start { IsAtStart world.old }
-    requires blank { IsBlank ending.old }
-    ensures read { AllTell world.old.bays.items → (script : ScriptValue) → Shows script [] world.old → IfOk result (λ _. IsRead script world.new ending.new) }
-{
-    let rows = row_count(world.script);
-    world.play();
-    if let Some(bay) = fault_bay(world.bays.as_slice()) {
-        return Err(bay);
-    }
-    let bays = world.bays.as_mut_slice();
-    match read_rows(bays, rows, &mut ending.cells, &mut ending.opened) {
-        Ok(()) => {}
-        Err(_) => return Err(BayNo((ending.cells.len() % 3) as u8)),
-    }
-    collect_results(world.hosts.as_slice(), &mut ending.results);
-    collect_contents(world.hosts.as_slice(), &mut ending.contents);
-    Ok(())
-}
-
-/// Prints the report of a world that was read.
-fn print<K: Sink, D: Store>(
-    sink: &mut K,
-    script: &Script,
-    world: &World<'_, D>,
-    ending: &Ending,
-) -> Status
-    ensures done { K.tells sink.old ≡ true → result ≡ Done → K.written sink.new ≡ K.written sink.old ++ report_text (report_in script.now ending.now.results.items ending.now.contents.items world.now.turns.items ending.now.cells.items ending.now.opened.items) }
-{
-    let view = Final {
-        script,
-        results: ending.results.as_slice(),
-        contents: ending.contents.as_slice(),
-        turns: world.turns.as_slice(),
-        cells: ending.cells.as_slice(),
-        opened: ending.opened.as_slice(),
-    };
-    match write_report(sink, &view) {
-        Ok(()) => Status::Done,
-        Err(_) => Status::WriteFault,
-    }
-}
-
-/// The status where no world was made.
-fn refusal<D: Store>(fault: WorldFault<D>) -> Status
-    ensures { (result ≡ Done) → ⊥ }
+/// The end where no world was made.
+fn refused<D: Store>(alloc: Global, fault: WorldFault<D>) -> Outcome<D>
+    ensures { IsRefused fault result }
 {
     match fault {
-        WorldFault::TooFew(stores) => Status::TooFewStores {
-            have: u32::try_from(stores.len()).unwrap_or(u32::MAX),
-            need: 3,
-        },
-        WorldFault::TooSmall(bay, _) => Status::TooSmall { bay },
-        WorldFault::NoMemory(_) => Status::Memory,
-        WorldFault::Fault(bay, _) => Status::StoreFault { bay },
+        WorldFault::TooFew(stores) => {
+            let have = u32::try_from(stores.len()).unwrap_or(u32::MAX);
+            Outcome::early(alloc, Status::TooFewStores { have, need: 3 }, stores)
+        }
+        WorldFault::TooSmall(bay, stores) => {
+            Outcome::early(alloc, Status::TooSmall { bay }, stores)
+        }
+        WorldFault::NoMemory(stores) => Outcome::early(alloc, Status::Memory, stores),
+        WorldFault::Fault(bay, stores) => Outcome::early(alloc, Status::StoreFault { bay }, stores),
+    }
+}
+
+/// The end where the store of this bay has failed.
+fn stopped<D: Store>(alloc: Global, bay: BayNo, world: World<'_, D>) -> Outcome<D>
+    requires { IsClosable world }
+    ensures status { result.status ≡ StoreFault bay }
+    ensures stores { result.stores.items ≡ stores_of world.entry.bays.items ++ world.entry.others.items }
+    ensures empty { IsEmpty result }
+{
+    let closed = world.close();
+    Outcome::early(alloc, Status::StoreFault { bay }, closed.stores)
+}
+
+/// Prints the report of a world that was read, and closes it.
+fn reported<K: Sink, D: Store>(sink: &mut K, world: World<'_, D>) -> Outcome<D>
+    requires { IsClosable world }
+    ensures printed { let report = report_in world.entry.script.now world.entry.gathered.results.items world.entry.gathered.contents.items world.entry.turns.items world.entry.gathered.cells.items world.entry.gathered.opened.items in HasPrinted K.Sink (report_text report) sink.old sink.new result.status }
+    ensures stores { result.stores.items ≡ stores_of world.entry.bays.items ++ world.entry.others.items }
+    ensures journals { map (λ journal. journal.items) result.journals.items ≡ map (λ bay. bay.journal.items) world.entry.bays.items }
+    ensures results { result.results ≡ world.entry.gathered.results }
+    ensures turns { result.turns ≡ world.entry.turns }
+{
+    let status = match write_report(sink, &world.view()) {
+        Ok(()) => Status::Done,
+        Err(_) => Status::WriteFault,
+    };
+    let closed = world.close();
+    Outcome {
+        status,
+        stores: closed.stores,
+        journals: closed.journals,
+        results: closed.results,
+        turns: closed.turns,
     }
 }
 
 /// Plays a script over some stores, and prints its report.
-fn play<K: Sink, D: Store>(alloc: Global, script: &Script, sink: &mut K, stores: Vec<D>) -> Status
+fn play<K: Sink, D: Store>(
+    alloc: Global,
+    script: &Script,
+    sink: &mut K,
+    stores: Vec<D>,
+) -> Outcome<D>
     requires form { IsFirstForm script.now }
-    ensures done { K.tells sink.old ≡ true → EachAt (λ k store. k < 3 → IsTrue (D.tells store)) stores.items → result ≡ Done → IsReported script.now (K.written sink.old) (K.written sink.new) }
+    ensures { IsScriptPlayed K.Sink D.Store script.now sink.old sink.new stores.items result }
 {
-    let mut ending = match Ending::make(alloc) {
-        Ok(ending) => ending,
-        Err(_) => return Status::Memory,
-    };
     let mut world = match World::make(alloc, script, stores) {
         Ok(world) => world,
-        Err(fault) => return refusal(fault),
+        Err(fault) => return refused(alloc, fault),
     };
-    // Such a play is serial and keeps the parity.
-    first_plays_are_serial();
-    first_plays_keep_parity();
-    match finish(&mut world, &mut ending) {
-        Ok(()) => print(sink, script, &world, &ending),
-        Err(bay) => Status::StoreFault { bay },
+    world.play();
+    if let Some(bay) = fault_bay(world.bays.as_slice()) {
+        return stopped(alloc, bay, world);
+    }
+    match world.finish() {
+        Ok(()) => reported(sink, world),
+        Err(bay) => stopped(alloc, bay, world),
     }
 }
 
 /// Plays the script that the source holds over some stores, and prints its report.
-pub fn sim<S: Source, K: Sink, D: Store>(
+pub fn sim_call<S: Source, K: Sink, D: Store>(
     alloc: Global,
     source: &mut S,
     sink: &mut K,
     stores: Vec<D>,
-) -> Status
-    ensures done { S.tells source.old ≡ true → K.tells sink.old ≡ true → EachAt (λ k store. k < 3 → IsTrue (D.tells store)) stores.items → result ≡ Done → IsRun (S.left source.old) (K.written sink.old) (K.written sink.new) }
+) -> Outcome<D>
+    ensures { IsCall S.Source K.Sink D.Store source.old source.new sink.old sink.new stores.items result }
 {
     let bytes = match read_all(alloc, source, MOST_BYTES) {
         Ok(bytes) => bytes,
-        Err(InputFault::Read) => return Status::ReadFault,
-        Err(InputFault::TooLong) => return Status::NotYet,
-        Err(InputFault::NoMemory) => return Status::Memory,
+        Err(InputFault::Read) => return Outcome::early(alloc, Status::ReadFault, stores),
+        Err(InputFault::TooLong) => return Outcome::early(alloc, Status::NotYet, stores),
+        Err(InputFault::NoMemory) => return Outcome::early(alloc, Status::Memory, stores),
     };
     match read_first(alloc, bytes.as_slice()) {
         Ok(Some(script)) => play(alloc, &script, sink, stores),
-        Ok(None) => Status::NotYet,
-        Err(_) => Status::Memory,
+        Ok(None) => Outcome::early(alloc, Status::NotYet, stores),
+        Err(_) => Outcome::early(alloc, Status::Memory, stores),
+    }
+}
+
+/// Does what the words behind the program's name say. For now they are the one word `sim`, and with others nothing is
+/// touched.
+pub fn array<S: Source, K: Sink, D: Store>(
+    alloc: Global,
+    words: &[String],
+    source: &mut S,
+    sink: &mut K,
+    stores: Vec<D>,
+) -> Outcome<D>
+    ensures sim { AreSim (map string_bytes words.now) → IsCall S.Source K.Sink D.Store source.old source.new sink.old sink.new stores.items result }
+    ensures other { (AreSim (map string_bytes words.now) → ⊥) → IsNotYet stores.items result × (source.new ≡ source.old) × (sink.new ≡ sink.old) }
+{
+    if is_sim(words) {
+        sim_call(alloc, source, sink, stores)
+    } else {
+        Outcome::early(alloc, Status::NotYet, stores)
     }
 }

@@ -1,13 +1,17 @@
 //! Inputs of a size that is taken, of one byte more, and of a source that fails; words and exit numbers; the smallest run.
 
-use crate::{InputFault, exit_number, is_sim, read_all, sim};
-use block_store::MemoryStore;
-use raid_base::{BayNo, Kind, MemorySink, MemorySource, Status};
+use crate::{InputFault, Outcome, exit_number, is_sim, read_all, sim_call};
+use block_store::{FailingStore, MemoryStore, Store};
+use raid_base::{BayNo, Kind, MemorySink, MemorySource, NoMemory, Status};
+use std::alloc::Global;
 use std::test::Fail;
 
 /// One host writes a block and reads it.
 const SCRIPT: &[u8] =
     b"raid 1\ndevices 3\nrows 1\nmode order\npatience 3\ntries 2\nobject a 0\nhost 1\nwrite a 0 41\nread a 0 1\nend\n";
+
+/// The number of a call that is never made.
+const NEVER: u32 = 1_000_000;
 
 /// The report of its play: six requests of the write, and one of the read.
 const REPORT: &[u8] =
@@ -107,29 +111,141 @@ fn each_status_has_its_exit_number(rt: HostRuntime) {
     }
 }
 
+/// A call on the smallest script over four stores with 1, 2, 3 and 4 blocks. These calls of the source, the sink and one of
+/// the stores fail.
+fn call(
+    alloc: Global,
+    source: u32,
+    sink: u32,
+    bay: usize,
+    store: u32,
+) -> Result<(Outcome<FailingStore>, MemorySink), NoMemory> {
+    let bytes = SCRIPT.to_vec(alloc).map_err(|_| NoMemory)?;
+    let mut source = MemorySource::make(bytes, one(alloc, source)?);
+    let mut sink = MemorySink::make(alloc, 4_096, one(alloc, sink)?)?;
+    let mut stores = Vec::new(alloc);
+    for place in 0..4 {
+        let failing = if place == bay { store } else { NEVER };
+        let store = FailingStore::make(alloc, place as u32 + 1, one(alloc, failing)?)?;
+        stores.push(store).map_err(|_| NoMemory)?;
+    }
+    Ok((sim_call(alloc, &mut source, &mut sink, stores), sink))
+}
+
+fn one(alloc: Global, number: u32) -> Result<Vec<u32>, NoMemory> {
+    vec![in alloc; number].map_err(|_| NoMemory)
+}
+
+/// Whether all stores have come back, in order.
+fn are_back(stores: &[FailingStore]) -> bool {
+    let mut blocks = 1;
+    for store in stores {
+        if store.blocks() != blocks {
+            return false;
+        }
+        blocks += 1;
+    }
+    blocks == 5
+}
+
 #[test]
 fn the_smallest_script_is_played(rt: HostRuntime) -> Result<(), Fail> {
-    let alloc = rt.alloc();
-    let mut source = MemorySource::make(SCRIPT.to_vec(alloc)?, vec![in alloc; 9]?);
-    let mut sink = MemorySink::make(alloc, 4_096, vec![in alloc; 99]?)?;
-    let mut stores = Vec::new(alloc);
-    for _ in 0..4 {
-        stores.push(MemoryStore::make(alloc, 2)?)?;
-    }
-    let status = sim(alloc, &mut source, &mut sink, stores);
-    assert_eq!(rt; status, Status::Done);
+    let (outcome, sink) = call(rt.alloc(), NEVER, NEVER, 0, NEVER)?;
+    assert_eq!(rt; outcome.status, Status::Done);
     assert_eq!(rt; sink.written(), REPORT);
+    assert!(rt; are_back(outcome.stores.as_slice()));
+    assert_eq!(rt; outcome.results.len(), 2);
+    assert_eq!(rt; outcome.turns.len(), 7);
+    let mut entries = Vec::new(rt.alloc());
+    for journal in &outcome.journals {
+        entries.push(journal.len())?;
+    }
+    assert_eq!(rt; entries.as_slice(), [3, 1, 3].as_slice());
     Ok(())
 }
 
 #[test]
-fn two_stores_are_too_few(rt: HostRuntime) -> Result<(), Fail> {
-    let alloc = rt.alloc();
-    let mut source = MemorySource::make(SCRIPT.to_vec(alloc)?, vec![in alloc; 9]?);
-    let mut sink = MemorySink::make(alloc, 4_096, vec![in alloc; 99]?)?;
-    let stores = vec![in alloc; MemoryStore::make(alloc, 1)?, MemoryStore::make(alloc, 1)?]?;
-    let status = sim(alloc, &mut source, &mut sink, stores);
-    assert_eq!(rt; status, Status::TooFewStores { have: 2, need: 3 });
-    assert!(rt; sink.written().is_empty());
+fn a_source_that_fails_at_any_call_ends_the_run(rt: HostRuntime) -> Result<(), Fail> {
+    for failing in [0, 1] {
+        let (outcome, sink) = call(rt.alloc(), failing, NEVER, 0, NEVER)?;
+        assert_eq!(rt; outcome.status, Status::ReadFault);
+        assert!(rt; sink.written().is_empty());
+        assert!(rt; are_back(outcome.stores.as_slice()));
+        assert!(rt; outcome.turns.is_empty());
+    }
+    Ok(())
+}
+
+#[test]
+fn a_sink_that_fails_at_any_call_has_taken_a_first_part(rt: HostRuntime) -> Result<(), Fail> {
+    let mut failing = 0;
+    let mut outcome = call(rt.alloc(), NEVER, failing, 0, NEVER)?;
+    while outcome.0.status == Status::WriteFault {
+        assert!(rt; REPORT.starts_with(outcome.1.written()));
+        assert!(rt; outcome.1.written().len() < REPORT.len());
+        assert!(rt; are_back(outcome.0.stores.as_slice()));
+        assert_eq!(rt; outcome.0.turns.len(), 7);
+        failing += 1;
+        outcome = call(rt.alloc(), NEVER, failing, 0, NEVER)?;
+    }
+    assert!(rt; failing >= 13);
+    assert_eq!(rt; outcome.0.status, Status::Done);
+    Ok(())
+}
+
+/// Each store is asked to clear its row, and at the end for its block. Between, bay 0 is asked for the put and the read of
+/// the block, bay 1 for the share of the other block, and bay 2 for the put of the parity.
+#[test]
+fn a_store_that_fails_at_any_call_is_named(rt: HostRuntime) -> Result<(), Fail> {
+    for (bay, calls) in [(0, 4), (1, 3), (2, 3)] {
+        for failing in 0..calls {
+            let (outcome, sink) = call(rt.alloc(), NEVER, NEVER, bay, failing)?;
+            let bay = BayNo(bay as u8);
+            assert_eq!(rt; outcome.status, Status::StoreFault { bay });
+            assert!(rt; sink.written().is_empty());
+            assert!(rt; are_back(outcome.stores.as_slice()));
+            assert!(rt; outcome.journals.is_empty());
+        }
+        let (outcome, _) = call(rt.alloc(), NEVER, NEVER, bay, calls)?;
+        assert_eq!(rt; outcome.status, Status::Done);
+    }
+    Ok(())
+}
+
+/// A call on a text over so many stores of so many blocks.
+fn status(alloc: Global, text: &[u8], blocks: &[u32]) -> Result<Status, NoMemory> {
+    let bytes = text.to_vec(alloc).map_err(|_| NoMemory)?;
+    let mut source = MemorySource::make(bytes, Vec::new(alloc));
+    let mut sink = MemorySink::make(alloc, 4_096, Vec::new(alloc))?;
+    let mut stores = Vec::new(alloc);
+    for count in blocks {
+        let store = MemoryStore::make(alloc, *count)?;
+        stores.push(store).map_err(|_| NoMemory)?;
+    }
+    Ok(sim_call(alloc, &mut source, &mut sink, stores).status)
+}
+
+#[test]
+fn stores_that_are_too_few_or_too_small_are_refused(rt: HostRuntime) -> Result<(), Fail> {
+    let small = Status::TooSmall { bay: BayNo(1) };
+    let table: [(&[u32], Status); 5] = [
+        (&[], Status::TooFewStores { have: 0, need: 3 }),
+        (&[1, 0], Status::TooFewStores { have: 2, need: 3 }),
+        (&[1, 0, 0], small),
+        (&[1, 0, 1, 1], small),
+        (&[1, 1, 1, 0], Status::Done),
+    ];
+    for (blocks, end) in table {
+        assert_eq!(rt; status(rt.alloc(), SCRIPT, blocks)?, end);
+    }
+    Ok(())
+}
+
+#[test]
+fn other_texts_are_not_yet_played(rt: HostRuntime) -> Result<(), Fail> {
+    let long = vec![in rt.alloc(); b'x'; 65_537]?;
+    for text in [b"".as_slice(), &SCRIPT[1..], long.as_slice()] {
+        assert_eq!(rt; status(rt.alloc(), text, &[1, 1, 1])?, Status::NotYet);
+    }
     Ok(())
 }

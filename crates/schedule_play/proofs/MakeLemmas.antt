@@ -207,8 +207,8 @@ pub rises-none : (before now : ℕ) → Rises before now → RisesBy 0 before no
 rises-none before now h = grind (arith)
 
 -- all stores come back, and the count that rose is the one of that store
-pub record IsPutBack {D : Type 0} (size faults : D → ℕ) (given back : List D) (store failed : D) (k : ℕ) : Type 0 where
-  pub back_is : AreBack size faults given back
+pub record IsPutBack {D : Type 0} (size faults : D → ℕ) (n : ℕ) (given back : List D) (store failed : D) (k : ℕ) : Type 0 where
+  pub back_is : AreBack size faults n given back
   pub rises : Rises (faults store) (faults failed) → (d : D) → Rises (faults (get_or given k d)) (faults (get_or back k d))
 
 module _ {D : Type 0} {g : Ghosts D} where
@@ -236,14 +236,21 @@ module _ {D : Type 0} {g : Ghosts D} where
   back-count (b ∷ bays) [] store failed tail e = absurd (cc)
   back-count (b ∷ bays) (s ∷ given) store failed tail e = ap suc (back-count bays given store failed tail e)
 
+  back-others : (n : ℕ) (bays : List (Bay D g)) (given : List D) (store failed : D) (tail : List D) → drop (length bays) given ≡ store ∷ tail → length bays < n →
+      drop n (stores_of bays ++ failed ∷ tail) ≡ drop n given
+  back-others zero bays given store failed tail e below = absurd (omega arith)
+  back-others (suc n) [] given store failed tail e below = sym (ap (λ (xs : List D). drop (suc n) xs) e)
+  back-others (suc n) (b ∷ bays) [] store failed tail e below = absurd (cc)
+  back-others (suc n) (b ∷ bays) (s ∷ given) store failed tail e below = back-others n bays given store failed tail e (omega (arith, below))
+
   back-here : (bays : List (Bay D g)) (failed : D) (tail : List D) (d : D) → get_or (stores_of bays ++ failed ∷ tail) (length bays) d ≡ failed
   back-here [] failed tail d = refl
   back-here (b ∷ bays) failed tail d = back-here bays failed tail d
 
-  pub put-back : (script : Script) (cap : ℕ) (bays : List (Bay D g)) (given stores popped pushed back : List D) (store failed : D) (k : ℕ) → AreMade script cap given bays → length bays ≡ k →
+  pub put-back : (script : Script) (cap : ℕ) (bays : List (Bay D g)) (given stores popped pushed back : List D) (store failed : D) (n k : ℕ) → AreMade script cap given bays → length bays ≡ k → k < n →
       k < length given → reverse stores ≡ drop k given → stores ≡ popped ++ store ∷ [] → pushed ≡ popped ++ failed ∷ [] → back ≡ stores_of bays ++ reverse pushed →
-      IsBack g.size g.faults store failed → IsPutBack g.size g.faults given back store failed k
-  put-back script cap bays given stores popped pushed back store failed k made len inside rest last now all is =
+      IsBack g.size g.faults store failed → IsPutBack g.size g.faults n given back store failed k
+  put-back script cap bays given stores popped pushed back store failed n k made len below inside rest last now all is =
       let next = next-store given stores popped store k last rest inside in
       let from : drop (length bays) given ≡ store ∷ reverse popped = ap (λ (n : ℕ). drop n given) len ∙ next.from in
       let list : back ≡ stores_of bays ++ failed ∷ reverse popped =
@@ -251,9 +258,10 @@ module _ {D : Type 0} {g : Ghosts D} where
       let at : (d : D) → get_or back k d ≡ failed =
       λ d. ap (λ (xs : List D). get_or xs k d) list ∙ ap (λ (n : ℕ). get_or (stores_of bays ++ failed ∷ reverse popped) n d) (sym len) ∙ back-here bays failed (reverse popped) d in
       record {
-        back_is = subst (λ (xs : List D). AreBack g.size g.faults given xs) (sym list) (record {
+        back_is = subst (λ (xs : List D). AreBack g.size g.faults n given xs) (sym list) (record {
           count = back-count bays given store failed (reverse popped) from;
           each = λ j d l. back-each script cap bays given store failed (reverse popped) made from is j d;
+          others = back-others n bays given store failed (reverse popped) from (omega (arith, len, below));
         });
         rises = λ r d. subst (λ (x : D). Rises (g.faults x) (g.faults (get_or back k d))) (sym (next.here d)) (subst (λ (x : D). Rises (g.faults store) (g.faults x)) (sym (at d)) r);
       }

@@ -8,14 +8,15 @@ use Rattle.raid_base.specs.declared.numbers.BayNo.{BayNo}
 use Rattle.raid_base.specs.declared.numbers.RowNo.{RowNo}
 use Rattle.raid_base.specs.declared.cells.Cell.{Cell}
 use Rattle.raid_base.specs.declared.messages.Call.{Call}
-use Rattle.raid_base.specs.Counts.{Rises}
+use Rattle.raid_base.specs.declared.messages.Entry.{Entry}
+use Rattle.raid_base.specs.Counts.{Rises, RisesBy}
 use Rattle.slot_rules.specs.Slots.{Slot, Bay as BayState, slot_of}
 use Rattle.slot_rules.specs.Tables.{Table, with_blocks}
 use Rattle.block_store.specs.declared.store.Store.{Ghosts}
 use Rattle.bay_device.specs.declared.bay.Bay.{Bay}
-use Rattle.bay_device.specs.Handling.{cell_of_row}
+use Rattle.bay_device.specs.Handling.{cell_of_row, count_faults, RisesByFaults}
 use Rattle.script_text.specs.Script.{Script}
-use Rattle.schedule_play.specs.World.{EachAt, BayShows, AllTell}
+use Rattle.schedule_play.specs.World.{EachAt, BayShows, AllTell, IsOver, AreOver}
 use Rattle.schedule_play.specs.RowStates.{slot_at, cell_at, is_open, shown_at}
 use Rattle.report_text.specs.Rows.{cell_in, shown_in}
 use Rattle.report_text.proofs.ViewLemmas.{shown-same, closed-same}
@@ -26,6 +27,9 @@ use Rattle.std.proofs.lemmas.List.Folds.{list_any-append}
 use Rattle.schedule_play.specs.Rows.{row_no, HaveRows, cell_now, has_note, is_open_now, row_now, cells_now, opened_now, IsLookedAt, AreLookedAt, HasFailed, row_after, cells_after, opened_after, ShowRows}
 use Rattle.attempts.proofs.WholeLemmas.{range_more}
 use Rattle.schedule_play.proofs.WorldLemmas.{each-set, default-free}
+
+rises-on : (n first before now : ℕ) → RisesBy n first before → before ≤ now → RisesBy n first now
+rises-on n first before now rises later = omega (arith, rises, later)
 
 rises-since : (first before now : ℕ) → first ≤ before → Rises before now → Rises first now
 rises-since first before now h rises = omega (arith, h, rises)
@@ -73,9 +77,8 @@ module _ {D : Type 0} {g : Ghosts D} where
       }
 
   -- the store of that bay has failed
-  pub failed-here : (old mid : List (Bay D g)) (i : ℕ) (r new : Bay D g) → AreLookedAt old mid → i < length old → Rises (g.faults (get_or mid i r).store) (g.faults new.store) → HasFailed old (set mid i new)
+  pub failed-here : (old mid : List (Bay D g)) (i : ℕ) (r new : Bay D g) → AreLookedAt old mid → i < length old → Rises (g.faults (get_or mid i r).store) (g.faults new.store) → HasFailed i old (set mid i new)
   failed-here old mid i r new looked inside rises = record {
-    at = i;
     inside = inside;
     risen = λ d.
         let at : get_or (set mid i new) i d ≡ new = get_or-set_same mid i new d (omega (arith, looked.count)) in
@@ -84,12 +87,11 @@ module _ {D : Type 0} {g : Ghosts D} where
   }
 
   -- a failure since bays were only looked at is one since before
-  pub failed-since : (old mid new : List (Bay D g)) → AreLookedAt old mid → HasFailed mid new → HasFailed old new
-  failed-since old mid new looked failed = record {
-    at = failed.at;
+  pub failed-since : (at : ℕ) (old mid new : List (Bay D g)) → AreLookedAt old mid → HasFailed at mid new → HasFailed at old new
+  failed-since at old mid new looked failed = record {
     inside = omega (arith, failed.inside, looked.count);
-    risen = λ d. rises-since (g.faults (get_or old failed.at d).store) (g.faults (get_or mid failed.at d).store) (g.faults (get_or new failed.at d).store)
-        (looked.each failed.at d (omega (arith, failed.inside, looked.count))).faults (failed.risen d);
+    risen = λ d. rises-since (g.faults (get_or old at d).store) (g.faults (get_or mid at d).store) (g.faults (get_or new at d).store)
+        (looked.each at d (omega (arith, failed.inside, looked.count))).faults (failed.risen d);
   }
 
   cell-kept : (old new : Bay D g) (row : RowNo) → IsLookedAt old new → cell_now row new ≡ cell_now row old
@@ -149,6 +151,22 @@ module _ {D : Type 0} {g : Ghosts D} where
       let within : k < length old = omega (arith, looked.count, inside) in
       subst (λ (b : Bool). IsTrue b) (sym (looked.each k d within).tells) (tell k d within)
 
+  pub tell-back : (old new : List (Bay D g)) → AllTell new → AreLookedAt old new → AllTell old
+  tell-back old new tell looked k d inside = subst (λ (b : Bool). IsTrue b) (looked.each k d inside).tells (tell k d (omega (arith, looked.count, inside)))
+
+  -- and it is over the same store
+  over-kept : (store : D) (old new : Bay D g) → IsLookedAt old new → IsOver store old → IsOver store new
+  over-kept store old new looked over = record {
+    tells = looked.tells ∙ over.tells;
+    size = looked.size ∙ over.size;
+    faults = rises-on (count_faults new.journal.items) _ _ _ (subst (λ (entries : List Entry). RisesByFaults entries (g.faults store) (g.faults old.store)) (ap (λ (v : _). v.items) (sym looked.journal)) over.faults) looked.faults;
+  }
+
+  pub overs-kept : (stores : List D) (old new : List (Bay D g)) → AreLookedAt old new → AreOver stores old → AreOver stores new
+  overs-kept stores old new looked over k d e inside =
+      let within : k < length old = omega (arith, looked.count, inside) in
+      over-kept (get_or stores k d) (get_or old k e) (get_or new k e) (looked.each k e within) (over k d e within)
+
   -- a bay that was only looked at shows the same history
   bay-kept : (script : Script) (history : List Call) (at : ℕ) (old new : Bay D g) → IsLookedAt old new → BayShows script history at old → BayShows script history at new
   bay-kept script history at old new looked shows = record {
@@ -192,7 +210,7 @@ module _ {D : Type 0} {g : Ghosts D} where
 pub one-row : (k n : ℕ) → (k + 1) * n ≡ k * n + n
 one-row k n = omega arith
 
-map-as-range : {X Y : Type 0} (f : X → Y) (h : ℕ → Y) (xs : List X) (a n : ℕ) → length xs ≡ n → ((k : ℕ) (d : X) → k < length xs → f (get_or xs k d) ≡ h (a + k)) → map f xs ≡ map h (range_with_len a n)
+pub map-as-range : {X Y : Type 0} (f : X → Y) (h : ℕ → Y) (xs : List X) (a n : ℕ) → length xs ≡ n → ((k : ℕ) (d : X) → k < length xs → f (get_or xs k d) ≡ h (a + k)) → map f xs ≡ map h (range_with_len a n)
 map-as-range f h [] a zero len same = refl
 map-as-range f h [] a (suc n) len same = absurd (omega arith)
 map-as-range f h (x ∷ xs) a zero len same = absurd (omega arith)
@@ -204,7 +222,7 @@ any-of-map : {X Y : Type 0} (p : Y → Bool) (f : X → Y) (xs : List X) → lis
 any-of-map p f [] = refl
 any-of-map p f (x ∷ xs) = ap (λ b. p (f x) || b) (any-of-map p f xs)
 
-map-same : {X Y : Type 0} (f h : X → Y) (xs : List X) → ((x : X) → f x ≡ h x) → map f xs ≡ map h xs
+pub map-same : {X Y : Type 0} (f h : X → Y) (xs : List X) → ((x : X) → f x ≡ h x) → map f xs ≡ map h xs
 map-same f h [] same = refl
 map-same f h (x ∷ xs) same = ap (λ y. y ∷ map f xs) (same x) ∙ ap (λ ys. h x ∷ ys) (map-same f h xs same)
 

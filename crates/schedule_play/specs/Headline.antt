@@ -1,5 +1,5 @@
 -- The six parts of the headline, over a script and the history of its play.
-use Rattle.std.specs.Prelude.{◌≡◌, ℕ, ◌-◌, ◌*◌, ◌<◌, Bool, true, not, List, map, length, flat_map, slice_get, Option, Some, None}
+use Rattle.std.specs.Prelude.{◌≡◌, ℕ, ◌<◌, Bool, true, not, List, map, flat_map, slice_get, Option, Some, None}
 use Rattle.std.specs.List.{range_with_len, enumerate_from, AllByRecursion}
 use Rattle.raid_base.specs.declared.numbers.HostNo.{HostNo}
 use Rattle.raid_base.specs.declared.numbers.BayNo.{BayNo}
@@ -13,8 +13,10 @@ use Rattle.raid_base.specs.declared.messages.Entry.{Entry}
 use Rattle.raid_base.specs.declared.messages.Turn.{Turn}
 use Rattle.raid_base.specs.declared.jobs.JobResult.{JobResult}
 use Rattle.stripe_layout.specs.Placement.{bay}
-use Rattle.virtual_objects.specs.Objects.{Object, Address, place}
+use Rattle.virtual_objects.specs.Objects.{Address, place}
 use Rattle.script_text.specs.Script.{Script, host_numbers}
+use Rattle.report_text.specs.Report.{ReportOf}
+use Rattle.report_text.specs.Views.{object_blocks, flags_of}
 use Rattle.host_engine.specs.Progress.{Ending}
 use Rattle.host_engine.specs.History.{faults_in, journal, turns_of, endings_at}
 use Rattle.schedule_play.specs.Turns.{all_ended, sim}
@@ -39,9 +41,6 @@ abbrev pub contents : Script → List Call → List (List Content)
 contents script history = map (λ (e : Ending). e.contents) (flat_map (endings_at script history) (host_numbers script))
 
 -- Input and output: the report of the play
-abbrev pub object_blocks : Script → Object → List Address
-object_blocks script object = map (λ block. record { object = object.name; block = block }) (range_with_len 0 (length object.rows * (script.n - 1)))
-
 abbrev pub shown_place : Script → List Call → Option (RowNo × ℕ) → Shown
 shown_place script history None = Hidden
 shown_place script history (Some (row, unit)) = shown_at script history row unit
@@ -49,19 +48,13 @@ shown_place script history (Some (row, unit)) = shown_at script history row unit
 abbrev pub shown_block : Script → List Call → Address → Shown
 shown_block script history address = shown_place script history (place script.n script.objects address)
 
-pub record ReportOf : Type 0 where
-  pub results : List JobResult
-  pub contents : List (List Content)
-  pub turns : List Turn
-  pub blocks : List (Address × Shown)
-  pub closed : List Bool
-
 abbrev pub report_of : Script → List Call → ReportOf
 report_of script history = record {
   results = results script history;
   contents = contents script history;
+  flags = map (flags_of script) (results script history);
   turns = turns_of history;
-  blocks = map (λ address. (address, shown_block script history address)) (flat_map (object_blocks script) script.objects);
+  blocks = map (λ address. (address, shown_block script history address)) (flat_map (object_blocks script.n) script.objects);
   closed = map (λ row. not (is_open script history (record { 0 = row }))) (range_with_len 0 script.rows);
 }
 

@@ -8,3 +8,4 @@ pub mod Headline
 pub mod Laws
 pub mod FirstForm
 pub mod Rows
+pub mod Gathering

@@ -1,5 +1,5 @@
 -- A world at its start.
-use Rattle.std.specs.Prelude.{◌≡◌, ℕ, ◌<◌, ◌≤◌, IsTrue, List, [], length, map, slice_index_or}
+use Rattle.std.specs.Prelude.{◌≡◌, ℕ, ◌<◌, ◌≤◌, IsTrue, List, [], length, map, drop, slice_index_or}
 use Rattle.raid_base.specs.Counts.{Rises, RisesBy}
 use Rattle.slot_rules.specs.Slots.{first_bay}
 use Rattle.slot_rules.specs.Tables.{with_blocks}
@@ -45,15 +45,16 @@ pub record IsBack {D : Type 0} (size faults : D → ℕ) (store back : D) : Type
   pub size_is : size back ≡ size store
   pub faults_least : RisesBy 0 (faults store) (faults back)
 
--- all stores, in order
-pub record AreBack {D : Type 0} (size faults : D → ℕ) (stores back : List D) : Type 0 where
+-- all stores, in order; those beyond the first n are as they were
+pub record AreBack {D : Type 0} (size faults : D → ℕ) (n : ℕ) (stores back : List D) : Type 0 where
   pub count : length back ≡ length stores
   pub each : (k : ℕ) (d : D) → k < length stores → IsBack size faults (slice_index_or stores k d) (slice_index_or back k d)
+  pub others : drop n back ≡ drop n stores
 
 -- why no world was made, with all stores
 abbrev pub IsRefusal : {D : Type 0} → (D → ℕ) → (D → ℕ) → ℕ → ℕ → List D → WorldFault D → Type 0
 IsRefusal size faults n rows stores (TooFew back) = (length stores < n) × (back.items ≡ stores)
 IsRefusal size faults n rows stores (TooSmall bay back) = IsFirstSmall size n rows bay.0 stores × (back.items ≡ stores)
-IsRefusal size faults n rows stores (NoMemory back) = AreLarge size n rows stores × AreBack size faults stores back.items
-IsRefusal {D} size faults n rows stores (Fault bay back) = AreLarge size n rows stores × AreBack size faults stores back.items × (bay.0 < n)
+IsRefusal size faults n rows stores (NoMemory back) = AreLarge size n rows stores × AreBack size faults n stores back.items
+IsRefusal {D} size faults n rows stores (Fault bay back) = AreLarge size n rows stores × AreBack size faults n stores back.items × (bay.0 < n)
     × ((d : D) → Rises (faults (slice_index_or stores bay.0 d)) (faults (slice_index_or back.items bay.0 d)))

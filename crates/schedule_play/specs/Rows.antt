@@ -74,9 +74,8 @@ pub record AreLookedAt {D : Type 0} {g : Ghosts D} (old new : List (Bay D g)) : 
   pub count : length new ≡ length old
   pub each : (k : ℕ) (d : Bay D g) → k < length old → IsLookedAt (slice_index_or old k d) (slice_index_or new k d)
 
--- the store of some bay has failed since
-pub record HasFailed {D : Type 0} {g : Ghosts D} (old new : List (Bay D g)) : Type 0 where
-  pub at : ℕ
+-- the store of the bay at this place has failed since
+pub record HasFailed {D : Type 0} {g : Ghosts D} (at : ℕ) (old new : List (Bay D g)) : Type 0 where
   pub inside : at < length old
   pub risen : (d : Bay D g) → Rises (g.faults (slice_index_or old at d).store) (g.faults (slice_index_or new at d).store)
 

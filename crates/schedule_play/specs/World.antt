@@ -8,6 +8,7 @@ use Rattle.stripe_layout.specs.Placement.{bay}
 use Rattle.slot_rules.specs.Tables.{with_blocks}
 use Rattle.block_store.specs.declared.store.Store.{Ghosts}
 use Rattle.bay_device.specs.declared.bay.Bay.{Bay}
+use Rattle.bay_device.specs.Handling.{RisesByFaults}
 use Rattle.script_text.specs.Script.{Script, host_numbers}
 use Rattle.host_engine.specs.declared.host.Host.{Host}
 use Rattle.host_engine.specs.Progress.{Sent, asks}
@@ -43,6 +44,23 @@ pub record BayShows {D : Type 0} {g : Ghosts D} (script : Script) (history : Lis
 -- every store tells its content
 abbrev pub AllTell : {D : Type 0} {g : Ghosts D} → List (Bay D g) → Type 0
 AllTell {D} {g} bays = EachAt (λ at now. IsTrue (g.tells now.store)) bays
+
+-- a bay over a store that was handed in: it tells as it did, its size has stayed, and since then the count of its faults
+-- has risen by those of the journal
+pub record IsOver {D : Type 0} {g : Ghosts D} (store : D) (now : Bay D g) : Type 0 where
+  pub tells : g.tells now.store ≡ g.tells store
+  pub size : g.size now.store ≡ g.size store
+  pub faults : RisesByFaults now.journal.items (g.faults store) (g.faults now.store)
+
+-- the bays are over the first of these stores
+abbrev pub AreOver : {D : Type 0} {g : Ghosts D} → List D → List (Bay D g) → Type 0
+AreOver {D} {g} stores bays = (k : ℕ) (d : D) (e : Bay D g) → k < length bays → IsOver (slice_index_or stores k d) (slice_index_or bays k e)
+
+-- what turns keep: the other stores, the room for what is gathered at the end, and over which stores the bays are
+pub record Keeps {D : Type 0} {g : Ghosts D} (old new : World D g) : Type 0 where
+  pub others : new.others ≡ old.others
+  pub gathered : new.gathered ≡ old.gathered
+  pub over : (stores : List D) → AreOver stores old.bays.items → AreOver stores new.bays.items
 
 -- the world is where this history leads
 pub record Shows {D : Type 0} {g : Ghosts D} (script : Script) (history : List Call) (now : World D g) : Type 0 where

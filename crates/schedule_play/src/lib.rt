@@ -1,7 +1,9 @@
 //! Plays over bays and hosts.
 #![tactic(auto)]
 
+pub mod closing;
 pub mod faults;
+pub mod gathering;
 pub mod laws;
 pub mod making;
 mod playing;
@@ -9,6 +11,8 @@ pub mod results;
 pub mod rows;
 pub mod world;
 
+pub use closing::Closed;
+pub use gathering::Gathered;
 pub use making::WorldFault;
 pub use results::{collect_contents, collect_results};
 pub use world::World;

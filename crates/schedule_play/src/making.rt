@@ -6,9 +6,11 @@ ghost use Rattle.script_text.specs.Script.{host_numbers, jobs_of};
 ghost use Rattle.host_engine.specs.Bounds.{IsPlayable};
 ghost use Rattle.host_engine.specs.Stands.{IsFreshHost};
 ghost use Rattle.host_engine.specs.declared.host.Host.{Host as HostView};
-ghost use Rattle.schedule_play.specs.World.{EachAt, AllTell, Shows, all_requests};
+ghost use Rattle.schedule_play.specs.World.{EachAt, AllTell, AreOver, Shows, all_requests};
+ghost use Rattle.schedule_play.specs.Gathering.{IsBlank, IsClosable};
 ghost use Rattle.schedule_play.specs.Making.{AreMade, AreLarge, IsFirstSmall, IsRefusal, stores_of};
 
+use crate::gathering::Gathered;
 use crate::world::World;
 use bay_device::{Bay, BayFault};
 use block_store::Store;
@@ -97,6 +99,7 @@ fn make_bays<D: Store>(
     ensures count { IfOk result (λ made. length made.0.items ≡ script.now.n) }
     ensures made { IfOk result (λ made. AreMade script.now cap stores.items made.0.items) }
     ensures others { IfOk result (λ made. made.1.items ≡ drop script.now.n stores.items) }
+    ensures room { IfOk result (λ made. vec_len stores ≤ vec_capacity made.1) }
     ensures refused { IfErr result (IsRefusal D.size D.faults script.now.n script.now.rows stores.items) }
 {
     let mut bays = match with_room(alloc, script.n as usize) {
@@ -144,6 +147,9 @@ impl<'s, D: Store> World<'s, D> {
         ensures tells { EachAt (λ k store. k < script.now.n → IsTrue (D.tells store)) stores.items → IfOk result (λ world. AllTell world.bays.items) }
         ensures made { IfOk result (λ world. AreMade script.now (all_requests script.now) stores.items world.bays.items) }
         ensures others { IfOk result (λ world. world.others.items ≡ drop script.now.n stores.items) }
+        ensures over { IfOk result (λ world. AreOver stores.items world.bays.items) }
+        ensures blank { IfOk result (λ world. IsBlank script.now world.gathered) }
+        ensures closable { IfOk result IsClosable }
         ensures large { IfOk result (λ world. AreLarge D.size script.now.n script.now.rows stores.items) }
         ensures refused { IfErr result (IsRefusal D.size D.faults script.now.n script.now.rows stores.items) }
     {
@@ -162,6 +168,10 @@ impl<'s, D: Store> World<'s, D> {
             Ok(hosts) => hosts,
             Err(_) => return Err(WorldFault::NoMemory(stores)),
         };
+        let gathered = match Gathered::make(alloc, script) {
+            Ok(gathered) => gathered,
+            Err(_) => return Err(WorldFault::NoMemory(stores)),
+        };
         let (bays, others) = make_bays(alloc, script, requests, stores)?;
         Ok(World {
             script,
@@ -169,6 +179,7 @@ impl<'s, D: Store> World<'s, D> {
             bays,
             turns,
             others,
+            gathered,
         })
     }
 }

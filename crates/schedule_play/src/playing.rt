@@ -53,7 +53,7 @@ fn next_moment(moment: u64) -> u64
 
 impl<'s, D: Store> World<'s, D> {
     ghost use Rattle.std.specs.Prelude.{find};
-    ghost use Rattle.schedule_play.specs.World.{Shows, Turned, IsReady, AllTell};
+    ghost use Rattle.schedule_play.specs.World.{Shows, Turned, IsReady, AllTell, Keeps};
     ghost use Rattle.schedule_play.specs.Plays.{IsFound, waits, HasPlayed, Played};
 
     /// The first host from this number on that has not ended: its place and number.
@@ -89,7 +89,7 @@ impl<'s, D: Store> World<'s, D> {
         requires moment { turn.now.moment < 2 ^ 40 }
         ensures turned { (script : Script) (history : List Call) → Shows script history self.old → Turned script turn.now history self.new }
         ensures telling { AllTell self.old.bays.items → AllTell self.new.bays.items }
-        ensures others { self.new.others ≡ self.old.others }
+        ensures keeps { Keeps self.old self.new }
     {
         if let Some((place, host)) = self.first_waiting(turn.host.0 as u16) {
             if host == turn.host {
@@ -104,7 +104,7 @@ impl<'s, D: Store> World<'s, D> {
         ensures ready { IsReady self.new }
         ensures played { (script : Script) → Shows script [] self.old → HasPlayed script script.turns self.new }
         ensures telling { AllTell self.old.bays.items → AllTell self.new.bays.items }
-        ensures others { self.new.others ≡ self.old.others }
+        ensures keeps { Keeps self.old self.new }
     {
         for turn in turns(self.script) {
             self.take_turn(turn);
@@ -117,7 +117,7 @@ impl<'s, D: Store> World<'s, D> {
         requires moment { last < 2 ^ 40 }
         ensures played { (script : Script) → HasPlayed script script.turns self.old → last ≡ last_moment script.turns → Played script self.new }
         ensures telling { AllTell self.old.bays.items → AllTell self.new.bays.items }
-        ensures others { self.new.others ≡ self.old.others }
+        ensures keeps { Keeps self.old self.new }
     {
         let mut from = 0;
         let mut moment = last;
@@ -133,7 +133,7 @@ impl<'s, D: Store> World<'s, D> {
         requires ready { IsReady self.old }
         ensures played { (script : Script) → Shows script [] self.old → Played script self.new }
         ensures telling { AllTell self.old.bays.items → AllTell self.new.bays.items }
-        ensures others { self.new.others ≡ self.old.others }
+        ensures keeps { Keeps self.old self.new }
     {
         let last = last_moment(turns(self.script));
         self.play_turns();

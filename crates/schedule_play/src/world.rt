@@ -3,6 +3,7 @@ ghost use Rattle.std.specs.Prelude.{◌≡◌, ◌<◌, ◌^◌, List, slice_ind
 ghost use Rattle.raid_base.specs.declared.messages.Call.{Call};
 ghost use Rattle.script_text.specs.Script.{Script};
 
+use crate::gathering::Gathered;
 use bay_device::Bay;
 use block_store::Store;
 use host_engine::Host;
@@ -10,7 +11,8 @@ use raid_base::Turn;
 
 /// All bays and hosts of a script, and the turns so far.
 ///
-/// The stores that were given beyond those of the bays stay as they were.
+/// The stores that were given beyond those of the bays stay as they were. What is gathered at the end has its room from
+/// the beginning.
 #[derive(Drop)]
 pub struct World<'s, D: Store> {
     pub script: &'s script_text::Script,
@@ -18,10 +20,11 @@ pub struct World<'s, D: Store> {
     pub bays: Vec<Bay<D>>,
     pub turns: Vec<Turn>,
     pub others: Vec<D>,
+    pub gathered: Gathered,
 }
 
 impl<'s, D: Store> World<'s, D> {
-    ghost use Rattle.schedule_play.specs.World.{Shows, Turned, IsReady, AllTell, turn_of};
+    ghost use Rattle.schedule_play.specs.World.{Shows, Turned, IsReady, AllTell, Keeps, turn_of};
     ghost use Rattle.host_engine.specs.Progress.{asks};
     ghost use Rattle.host_engine.specs.History.{progress_at};
     ghost use Rattle.host_engine.specs.declared.host.Host.{Host as HostView};
@@ -35,7 +38,7 @@ impl<'s, D: Store> World<'s, D> {
         ensures asked { (host : HostView) → host ≡ slice_index_or self.old.hosts.items place host → (script : Script) (history : List Call) → Shows script history self.old → result ≡ is_some (asks host.no (progress_at script host.no history) moment) }
         ensures tells { AllTell self.new.bays.items → AllTell self.old.bays.items }
         ensures telling { AllTell self.old.bays.items → AllTell self.new.bays.items }
-        ensures others { self.new.others ≡ self.old.others }
+        ensures keeps { Keeps self.old self.new }
         ensures same { result ≡ false → self.new ≡ self.old }
     {
         let host = &self.hosts[place];

@@ -10,8 +10,8 @@ returns-in-NoMemory-clause-refused g c =
     let v = c.loop-bay.invariant in
     let inside : c.loop-bay.bay < length c.args.stores.items = omega (arith, c.loop-bay-test.true, c.requires.enough, ap (λ (s : Script). s.n) c.script.view_is) in
     let r = subst (λ (f : _). IsRefusal g.D.Store.size g.D.Store.faults c.script.inside.rows c.in-Some.store f) c.in-NoMemory.is c.in-Err-make.ensures.refused in
-    let p = put-back c.args.script.now c.args.cap c.loop-bay.bays.items c.args.stores.items c.loop-bay.stores.items c.pop.new.self.items c.push_reserved-in-NoMemory.new.self.items c.put_back.result.items c.in-Some.store c.in-NoMemory.store c.loop-bay.bay
-    v.made (omega (arith, v.count, c.loop-bay.bays.ok.0)) inside v.rest c.in-Some.ensures.items c.push_reserved-in-NoMemory.ensures.items c.put_back.ensures
+    let p = put-back c.args.script.now c.args.cap c.loop-bay.bays.items c.args.stores.items c.loop-bay.stores.items c.pop.new.self.items c.push_reserved-in-NoMemory.new.self.items c.put_back.result.items c.in-Some.store c.in-NoMemory.store c.args.script.now.n c.loop-bay.bay
+    v.made (omega (arith, v.count, c.loop-bay.bays.ok.0)) (omega (arith, c.loop-bay-test.true, ap (λ (s : Script). s.n) c.script.view_is)) inside v.rest c.in-Some.ensures.items c.push_reserved-in-NoMemory.ensures.items c.put_back.ensures
     (record { size_is = ap g.D.Store.size r.1; faults_least = none-risen _ _ (omega (arith, ap g.D.Store.faults r.1)) }) in
     (c.requires, p.back_is)
 
@@ -27,8 +27,8 @@ returns-in-Fault-clause-refused g c =
     let v = c.loop-bay.invariant in
     let inside : c.loop-bay.bay < length c.args.stores.items = omega (arith, c.loop-bay-test.true, c.requires.enough, ap (λ (s : Script). s.n) c.script.view_is) in
     let r = subst (λ (f : _). IsRefusal g.D.Store.size g.D.Store.faults c.script.inside.rows c.in-Some.store f) c.in-Fault.is c.in-Err-make.ensures.refused in
-    let p = put-back c.args.script.now c.args.cap c.loop-bay.bays.items c.args.stores.items c.loop-bay.stores.items c.pop.new.self.items c.push_reserved-in-Fault.new.self.items c.put_back-in-Fault.result.items c.in-Some.store c.in-Fault.store c.loop-bay.bay
-    v.made (omega (arith, v.count, c.loop-bay.bays.ok.0)) inside v.rest c.in-Some.ensures.items c.push_reserved-in-Fault.ensures.items c.put_back-in-Fault.ensures
+    let p = put-back c.args.script.now c.args.cap c.loop-bay.bays.items c.args.stores.items c.loop-bay.stores.items c.pop.new.self.items c.push_reserved-in-Fault.new.self.items c.put_back-in-Fault.result.items c.in-Some.store c.in-Fault.store c.args.script.now.n c.loop-bay.bay
+    v.made (omega (arith, v.count, c.loop-bay.bays.ok.0)) (omega (arith, c.loop-bay-test.true, ap (λ (s : Script). s.n) c.script.view_is)) inside v.rest c.in-Some.ensures.items c.push_reserved-in-Fault.ensures.items c.put_back-in-Fault.ensures
     (record { size_is = r.1; faults_least = rises-none _ _ r.2 }) in
     (c.requires, p.back_is, omega (arith, c.loop-bay-test.true, ap (λ (s : Script). s.n) c.script.view_is), p.rises r.2)
 

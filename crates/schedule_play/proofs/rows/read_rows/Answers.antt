@@ -2,13 +2,13 @@ use Rattle.std.proofs.Common.{length, refl, arith}
 use Rattle.schedule_play.proofs.RowLemmas.{looked-all, failed-since, tell-kept, shows-kept, rows-more, opened-more, one-row, after-all}
 use Rattle.schedule_play.proofs.rows.read_rows.Goals as goal
 
-pub returns-in_err-read_row-clause-failed : goal.returns-in_err-read_row-clause-failed
-returns-in_err-read_row-clause-failed g c = λ h. failed-since c.args.bays.now c.loop-row.bays c.read_row.new.bays c.loop-row.invariant.0 (c.in_err-read_row.ensures.failed refl)
+pub returns-in-Err-clause-failed : goal.returns-in-Err-clause-failed
+returns-in-Err-clause-failed g c = failed-since _ c.args.bays.now c.loop-row.bays c.read_row.new.bays c.loop-row.invariant.0 c.in-Err.ensures.failed
 
 pub loop-row-preserved : goal.loop-row-preserved
 loop-row-preserved g c =
     let i = c.loop-row.invariant in
-    let e = c.in_ok-read_row.ensures in (
+    let e = c.in-Ok.ensures in (
       looked-all c.args.bays.now c.loop-row.bays c.read_row.new.bays i.0 c.read_row.ensures.looked,
       λ tell. rows-more c.args.bays.now c.loop-row.bays c.loop-row.row c.args.cells.now.items c.loop-row.cells.items c.read_row.new.cells.items i.0 (i.1 tell)
           (e.cells (tell-kept c.args.bays.now c.loop-row.bays tell i.0)),

@@ -2,6 +2,7 @@ use Rattle.std.proofs.Common.{ℕ, ◌<◌, Bool, IsTrue, refl, sym, subst, arit
 use Rattle.script_text.specs.Script.{Script}
 use Rattle.schedule_play.specs.Making.{IsMade}
 use Rattle.schedule_play.proofs.MakeLemmas.{host-at-start, bay-at-start}
+use Rattle.schedule_play.proofs.KeepLemmas.{made-over}
 use Rattle.schedule_play.proofs.world.World.make.Goals as goal
 
 pub returns-clause-shows : goal.returns-clause-shows
@@ -25,3 +26,11 @@ returns-clause-tells g c = λ all k e h.
     let below : k < c.args.script.now.n = omega (arith, h, c.in_ok-bays.ensures.count) in
     let inside : k < length c.args.stores.items = omega (arith, below, c.if-len-script.false, c.len.ensures, c.args.stores.ok.0, ap (λ (s : Script). s.n) c.script.view_is) in
     subst (λ (b : Bool). IsTrue b) (sym m.tells) (all k e.store inside below)
+
+pub returns-clause-made : goal.returns-clause-made
+returns-clause-made g c = λ k d e h.
+    subst (λ (n : ℕ). IsMade {D = g.row.D.Denot} {g = g.D.Store} c.args.script.now n (get_or c.args.stores.items k d) (get_or c.in_ok-bays.bays.items k e)) c.all_requests-requests.ensures
+    (c.in_ok-bays.ensures.made k d e h)
+
+pub returns-clause-over : goal.returns-clause-over
+returns-clause-over g c = λ k d e h. made-over c.args.script.now c.all_requests-requests.result (get_or c.args.stores.items k d) (get_or c.in_ok-bays.bays.items k e) (c.in_ok-bays.ensures.made k d e h)

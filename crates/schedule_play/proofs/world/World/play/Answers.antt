@@ -1,6 +1,7 @@
 use Rattle.std.proofs.Common.{◌<◌, ◌^◌, ℕ, sym, ◌∙◌, ap, subst}
 use Rattle.schedule_play.specs.Turns.{last_moment}
 use Rattle.schedule_play.proofs.PlayLemmas.{last-small}
+use Rattle.schedule_play.proofs.KeepLemmas.{keeps-both}
 use Rattle.schedule_play.proofs.world.World.play.Goals as goal
 
 pub play_rounds-requires-clause-moment : goal.play_rounds-requires-clause-moment
@@ -15,5 +16,5 @@ returns-clause-played g c script shows =
 pub returns-clause-telling : goal.returns-clause-telling
 returns-clause-telling g c = λ all. c.play_rounds.ensures.telling (c.play_turns.ensures.telling all)
 
-pub returns-clause-others : goal.returns-clause-others
-returns-clause-others g c = c.play_rounds.ensures.others ∙ c.play_turns.ensures.others
+pub returns-clause-keeps : goal.returns-clause-keeps
+returns-clause-keeps g c = keeps-both c.args.self.now c.play_turns.new.self c.play_rounds.new.self c.play_turns.ensures.keeps c.play_rounds.ensures.keeps

@@ -1,9 +1,10 @@
 use Rattle.std.proofs.Common.{◌<◌, ◌^◌, ℕ, sym, subst, refl, ◌∙◌}
 use Rattle.schedule_play.proofs.PlayLemmas.{round-turn, round-smaller, round-ready, round-reaches, rounds-start, rounds-end, found-nothing, found-inside, next-small}
+use Rattle.schedule_play.proofs.KeepLemmas.{keeps-nothing, keeps-both}
 use Rattle.schedule_play.proofs.world.World.play_rounds.Goals as goal
 
 pub loop-place-init : goal.loop-place-init
-loop-place-init g c = (c.requires.ready, c.requires.moment, (λ all. all), refl, λ script played at. rounds-start c.args.self.now c.args.last script played at)
+loop-place-init g c = (c.requires.ready, c.requires.moment, (λ all. all), keeps-nothing c.args.self.now, λ script played at. rounds-start c.args.self.now c.args.last script played at)
 
 pub turn_at-requires-clause-place : goal.turn_at-requires-clause-place
 turn_at-requires-clause-place g c =
@@ -29,7 +30,7 @@ loop-place-preserved g c =
       round-ready c.loop-place.self c.turn_at.new.self c.loop-place.invariant.0 c.loop-place.from c.next_moment-moment.result c.in-Some.host turn,
       subst (λ (m : ℕ). m < 2 ^ 40) (sym c.next_moment-moment.ensures) (next-small c.loop-place.moment),
       (λ all. c.turn_at.ensures.telling (c.loop-place.invariant.2 all)),
-      c.turn_at.ensures.others ∙ c.loop-place.invariant.3,
+      keeps-both _ c.loop-place.self c.turn_at.new.self c.loop-place.invariant.3 c.turn_at.ensures.keeps,
       λ script played at. round-reaches c.loop-place.self c.turn_at.new.self c.loop-place.from c.loop-place.moment c.next_moment-moment.result c.in-Some.host c.next_moment-moment.ensures script
           (turn script) (c.loop-place.invariant.4 script played at),
     )
@@ -43,5 +44,5 @@ returns-clause-played g c script played at =
 pub returns-clause-telling : goal.returns-clause-telling
 returns-clause-telling g c = c.loop-place.invariant.2
 
-pub returns-clause-others : goal.returns-clause-others
-returns-clause-others g c = c.loop-place.invariant.3
+pub returns-clause-keeps : goal.returns-clause-keeps
+returns-clause-keeps g c = c.loop-place.invariant.3

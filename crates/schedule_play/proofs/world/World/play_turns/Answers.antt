@@ -1,9 +1,10 @@
 use Rattle.std.proofs.Common.{sym, ◌∙◌, refl, ap}
 use Rattle.schedule_play.proofs.PlayLemmas.{turn-of-script, turned-ready, played-more, played-all, played-none}
+use Rattle.schedule_play.proofs.KeepLemmas.{keeps-nothing, keeps-both}
 use Rattle.schedule_play.proofs.world.World.play_turns.Goals as goal
 
 pub loop-turn-init : goal.loop-turn-init
-loop-turn-init g c = (c.requires.ready, refl, (λ all. all), refl, λ script shows. played-none c.args.self.now script shows)
+loop-turn-init g c = (c.requires.ready, refl, (λ all. all), keeps-nothing c.args.self.now, λ script shows. played-none c.args.self.now script shows)
 
 pub take_turn-requires-clause-ready : goal.take_turn-requires-clause-ready
 take_turn-requires-clause-ready g c = c.loop-turn.invariant.0
@@ -22,7 +23,7 @@ loop-turn-preserved g c =
       next.0,
       next.1 ∙ c.loop-turn.invariant.1,
       (λ all. c.take_turn.ensures.telling (c.loop-turn.invariant.2 all)),
-      c.take_turn.ensures.others ∙ c.loop-turn.invariant.3,
+      keeps-both _ c.loop-turn.self c.take_turn.new.self c.loop-turn.invariant.3 c.take_turn.ensures.keeps,
       λ script shows. played-more c.loop-turn.self c.take_turn.new.self script c.turns-turn-items.result.now c.loop-turn.turn-index _ (c.turns-turn-items.ensures ∙ ap (λ s. s.turns) shows.plays) c.loop-turn-test.true
           c.take_turn.ensures.turned (c.loop-turn.invariant.4 script shows),
     )
@@ -37,5 +38,5 @@ returns-clause-played g c script shows =
 pub returns-clause-telling : goal.returns-clause-telling
 returns-clause-telling g c = c.loop-turn.invariant.2
 
-pub returns-clause-others : goal.returns-clause-others
-returns-clause-others g c = c.loop-turn.invariant.3
+pub returns-clause-keeps : goal.returns-clause-keeps
+returns-clause-keeps g c = c.loop-turn.invariant.3

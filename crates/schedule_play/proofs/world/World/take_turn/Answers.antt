@@ -4,6 +4,7 @@ use Rattle.script_text.specs.Script.{host_numbers}
 use Rattle.std.specs.Prelude.{find}
 use Rattle.schedule_play.specs.Plays.{IsFound, waits}
 use Rattle.schedule_play.proofs.PlayLemmas.{turned-found, turned-ended, found-other, found-none, same-number}
+use Rattle.schedule_play.proofs.KeepLemmas.{keeps-nothing}
 use Rattle.schedule_play.proofs.world.World.take_turn.Goals as goal
 
 pub returns-then-eq-clause-turned : goal.returns-then-eq-clause-turned
@@ -24,3 +25,9 @@ returns-in_default-clause-turned g c script history shows =
     turned-ended c.args.self.now c.requires.ready c.args.turn.now c.requires.host script history shows
     (found-none c.args.self.now.hosts.items (find (waits script history c.args.turn.now.host.0) (host_numbers script)) c.first_waiting.result c.args.turn.now.host
     (c.first_waiting.ensures script history shows) c.in_default.not-Some)
+
+pub returns-else-eq-clause-keeps : goal.returns-else-eq-clause-keeps
+returns-else-eq-clause-keeps g c = keeps-nothing c.args.self.now
+
+pub returns-in_default-clause-keeps : goal.returns-in_default-clause-keeps
+returns-in_default-clause-keeps g c = keeps-nothing c.args.self.now

@@ -7,6 +7,7 @@ use Rattle.schedule_play.specs.World.{all_requests}
 use Rattle.schedule_play.proofs.TurnLemmas.{turn-facts, read-bay, ask-fits-bay, can-take}
 use Rattle.schedule_play.proofs.TurnedLemmas.{one-script, tells-asked, tells-back, tells-on, turned-none, turned-some}
 use Rattle.schedule_play.proofs.WorldLemmas.{same_read}
+use Rattle.schedule_play.proofs.KeepLemmas.{keeps-nothing, keeps-turn}
 use Rattle.schedule_play.proofs.world.World.turn_at.Goals as goal
 
 pub returns-in-None-clause-turned : goal.returns-in-None-clause-turned
@@ -97,3 +98,14 @@ returns-clause-telling g c =
     let f = turn-facts r.script r.history c.args.self.now c.args.place c.index-host.result.now c.args.moment c.in-Some.sent.0 c.in-Some.sent.1 c.next.result
     r.playable r.few r.shows c.requires.place c.index-host.ensures c.next.ensures c.in-Some.is in
     tells-on c.args.self.now.bays.items c.in-Some.sent.0.0 c.index_mut-device.result.now c.handle-answer.new.self f.inside c.index_mut-device.ensures.value c.handle-answer.ensures.store.0
+
+pub returns-in-None-clause-keeps : goal.returns-in-None-clause-keeps
+returns-in-None-clause-keeps g c = keeps-nothing c.args.self.now
+
+pub returns-clause-keeps : goal.returns-clause-keeps
+returns-clause-keeps g c =
+    let r = c.requires.ready in
+    let f = turn-facts r.script r.history c.args.self.now c.args.place c.index-host.result.now c.args.moment c.in-Some.sent.0 c.in-Some.sent.1 c.next.result
+    r.playable r.few r.shows c.requires.place c.index-host.ensures c.next.ensures c.in-Some.is in
+    keeps-turn c.args.self.now _ c.in-Some.sent.0.0 c.index_mut-device.result.now c.handle-answer.new.self f.inside c.index_mut-device.ensures.value
+    (record { tells = c.handle-answer.ensures.store.0; size = c.handle-answer.ensures.store.1; faults = c.handle-answer.ensures.faults }) refl refl refl

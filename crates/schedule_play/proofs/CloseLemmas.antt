@@ -1,0 +1,194 @@
+-- What a closed world hands out: the journals and the stores of its history.
+use Rattle.std.proofs.Common.{◌≡◌, ℕ, ◌+◌, ◌-◌, ◌<◌, ◌≤◌, ◌^◌, ◌||◌, zero, suc, Bool, true, false, List, [], ◌∷◌, ◌++◌, length, get_or, map, drop, Option, Some, None, refl, sym, ap, subst, ◌∙◌, arith, IsTrue, length-append}
+use Rattle.std.specs.Prelude.{slice_get}
+use Rattle.std.specs.List.{list_any, range_with_len}
+use Rattle.std.proofs.lemmas.List.{length-drop}
+use Rattle.raid_base.specs.declared.numbers.BayNo.{BayNo}
+use Rattle.raid_base.specs.declared.numbers.RowNo.{RowNo}
+use Rattle.raid_base.specs.declared.cells.Cell.{Cell}
+use Rattle.raid_base.specs.declared.messages.Call.{Call}
+use Rattle.raid_base.specs.declared.messages.Entry.{Entry}
+use Rattle.raid_base.specs.Counts.{Rises, RisesBy}
+use Rattle.stripe_layout.specs.Placement.{bay}
+use Rattle.slot_rules.specs.declared.slot.SlotState.{SlotState}
+use Rattle.slot_rules.specs.Slots.{Slot, Bay as BayState, slot_of}
+use Rattle.slot_rules.specs.Tables.{slots_with, with_blocks, cell_of}
+use Rattle.block_store.specs.declared.store.Store.{Ghosts}
+use Rattle.bay_device.specs.declared.bay.Bay.{Bay}
+use Rattle.bay_device.specs.Handling.{count_faults, RisesByFaults}
+use Rattle.script_text.specs.Script.{Script}
+use Rattle.host_engine.specs.History.{journal, bay_at}
+use Rattle.schedule_play.specs.Faults.{is_fault_entry, fault_bay}
+use Rattle.schedule_play.specs.Making.{IsBack, AreBack, stores_of}
+use Rattle.schedule_play.specs.RowStates.{cell_at}
+use Rattle.schedule_play.specs.Rows.{HasFailed}
+use Rattle.schedule_play.specs.Headline.{HoldsCell, HoldsBay, StoresHold}
+use Rattle.schedule_play.specs.World.{EachAt, BayShows, AllTell, IsOver, AreOver}
+use Rattle.schedule_play.proofs.RowLemmas.{map-as-range}
+
+-- the block of a present slot is its cell's
+block-of-cell : (mark : Option ℕ) (block : List ℕ) (cell : Cell) → cell_of mark block ≡ Some cell → block ≡ cell.bytes
+block-of-cell None block cell e = absurd (cc)
+block-of-cell (Some lost) block cell e = cc
+
+pub block-of : (slots : List SlotState) (blocks : List (List ℕ)) (row : ℕ) (d : Slot) (cell : Cell) → length slots ≤ length blocks → row < length slots →
+    (get_or (slots_with slots blocks) row d).cell ≡ Some cell → slice_get blocks row ≡ Some cell.bytes
+block-of [] blocks row d cell enough inside e = absurd (omega arith)
+block-of (slot ∷ slots) [] row d cell enough inside e = absurd (omega arith)
+block-of (slot ∷ slots) (block ∷ blocks) zero d cell enough inside e = ap Some (block-of-cell slot.mark block cell e)
+block-of (slot ∷ slots) (block ∷ blocks) (suc row) d cell enough inside e = block-of slots blocks row d cell (omega (arith, enough)) (omega (arith, inside)) e
+
+-- counts
+rises-none-of : (n before now : ℕ) → RisesBy n before now → RisesBy 0 before now
+rises-none-of n before now r = grind (arith)
+
+rises-some : (n before now : ℕ) → 1 ≤ n → RisesBy n before now → Rises before now
+rises-some n before now some r = grind (arith)
+
+rises-later : (n before mid now : ℕ) → RisesBy n before mid → Rises mid now → Rises before now
+rises-later n before mid now r s = grind (arith)
+
+count-some : (entries : List Entry) → list_any is_fault_entry entries ≡ true → 1 ≤ count_faults entries
+count-some [] e = cc
+count-some (entry ∷ entries) e = go (is_fault_entry entry) refl e (count-some entries)
+  where
+    go : (b : Bool) → is_fault_entry entry ≡ b → (b || list_any is_fault_entry entries) ≡ true → (list_any is_fault_entry entries ≡ true → 1 ≤ count_faults entries) → 1 ≤ count_faults (entry ∷ entries)
+    go true is h rest = rw is (omega arith)
+    go false is h rest = let more = rest h in rw is (omega (arith, more))
+
+some-same : {X : Type 0} (x y : X) → Some x ≡ Some y → x ≡ y
+some-same x y e = cc
+
+drop-front : {X : Type 0} (xs ys : List X) → drop (length xs) (xs ++ ys) ≡ ys
+drop-front [] ys = refl
+drop-front (x ∷ xs) ys = drop-front xs ys
+
+module _ {D : Type 0} {g : Ghosts D} where
+  length-stores : (bays : List (Bay D g)) → length (stores_of bays) ≡ length bays
+  length-stores [] = refl
+  length-stores (b ∷ bays) = ap suc (length-stores bays)
+
+  -- some bay of a list
+  some-bay : (bays : List (Bay D g)) → 1 ≤ length bays → Bay D g
+  some-bay [] some = absurd (omega arith)
+  some-bay (b ∷ bays) some = b
+
+  store-at : (bays : List (Bay D g)) (others : List D) (k : ℕ) (d : D) (e : Bay D g) → k < length bays → get_or (stores_of bays ++ others) k d ≡ (get_or bays k e).store
+  store-at [] others k d e inside = absurd (omega arith)
+  store-at (b ∷ bays) others zero d e inside = refl
+  store-at (b ∷ bays) others (suc k) d e inside = store-at bays others k d e (omega (arith, inside))
+
+  -- the journals
+  pub closed-journals : (script : Script) (history : List Call) (bays : List (Bay D g)) → EachAt (BayShows script history) bays → length bays ≡ script.n →
+      map (λ (b : Bay D g). b.journal.items) bays ≡ map (λ k. journal (bay k) history) (range_with_len 0 script.n)
+  closed-journals script history bays shows count =
+      map-as-range (λ (b : Bay D g). b.journal.items) (λ k. journal (bay k) history) bays 0 script.n count
+      (λ k d inside. (shows k d inside).entries ∙ ap (λ (m : ℕ). journal (bay m) history) (omega arith))
+
+  -- a store holds the bytes of the present slots of its bay
+  holds-bay : (script : Script) (history : List Call) (k : ℕ) (now : Bay D g) → BayShows script history k now → IsTrue (g.tells now.store) → length now.slots.slots ≤ length (g.content now.store) →
+      HoldsBay script history (bay k) (g.content now.store)
+  holds-bay script history k now shows tells enough row below = go (cell_at script history at (bay k)) refl
+    where
+      at : RowNo
+      at = record { 0 = row }
+
+      inside : row < length now.slots.slots
+      inside = omega (arith, below, shows.rows)
+
+      go : (o : Option Cell) → cell_at script history at (bay k) ≡ o → HoldsCell (g.content now.store) row o
+      go None e = tt
+      go (Some cell) e =
+          block-of now.slots.slots (g.content now.store) row _ cell enough inside
+          (ap (λ (b : BayState). (slot_of b at).cell) (shows.told tells) ∙ e)
+
+  -- the store at a place of those that were handed out
+  record IsAt (P : ℕ → Bay D g → Type 0) (k : ℕ) (store : List (List ℕ)) : Type 0 where
+    now : Bay D g
+    holds : P k now
+    is : store ≡ g.content now.store
+
+  at-place : (P : ℕ → Bay D g → Type 0) (bays : List (Bay D g)) (others : List D) (k : ℕ) (store : List (List ℕ)) → EachAt P bays → k < length bays →
+      slice_get (map g.content (stores_of bays ++ others)) k ≡ Some store → IsAt P k store
+  at-place P [] others k store all inside e = absurd (omega arith)
+  at-place P (b ∷ bays) others zero store all inside e = record { now = b; holds = all 0 b (omega arith); is = cc }
+  at-place P (b ∷ bays) others (suc k) store all inside e =
+      let rest = at-place (λ j now. P (suc j) now) bays others k store (λ j d within. all (suc j) d (omega (arith, within))) (omega (arith, inside)) e in
+      record { now = rest.now; holds = rest.holds; is = rest.is }
+
+  pub closed-stores : (script : Script) (history : List Call) (bays : List (Bay D g)) (others : List D) → EachAt (BayShows script history) bays → AllTell bays → length bays ≡ script.n →
+      ((store : D) → IsTrue (g.tells store) → length (g.content store) ≡ g.size store) →
+      StoresHold script history (map g.content (stores_of bays ++ others))
+  closed-stores script history bays others shows told count whole k store below e =
+      let at = at-place (λ j now. HoldsBay script history (bay j) (g.content now.store)) bays others k store
+      (λ j d inside.
+      let now = get_or bays j d in
+      holds-bay script history j now (shows j d inside) (told j d inside) (omega (arith, whole now.store (told j d inside), now.stored)))
+      (omega (arith, below, count)) e in
+      subst (λ (blocks : List (List ℕ)). HoldsBay script history (bay k) blocks) (sym at.is) at.holds
+
+  -- all stores come back
+  back-of : (store : D) (now : Bay D g) → IsOver store now → IsBack g.size g.faults store now.store
+  back-of store now over = record { size_is = over.size; faults_least = rises-none-of (count_faults now.journal.items) _ _ over.faults }
+
+  each-back : (bays : List (Bay D g)) (stores : List D) → length bays ≤ length stores → AreOver stores bays → (k : ℕ) (d : D) →
+      IsBack g.size g.faults (get_or stores k d) (get_or (stores_of bays ++ drop (length bays) stores) k d)
+  each-back [] stores few over k d = record { size_is = refl; faults_least = grind (arith) }
+  each-back (b ∷ bays) [] few over k d = absurd (omega (arith, few))
+  each-back (b ∷ bays) (s ∷ stores) few over zero d = back-of s b (over 0 s b (omega arith))
+  each-back (b ∷ bays) (s ∷ stores) few over (suc k) d = each-back bays stores (omega (arith, few)) (λ j x y inside. over (suc j) x y (omega (arith, inside))) k d
+
+  pub closed-back : (n : ℕ) (stores : List D) (bays : List (Bay D g)) (others back : List D) → AreOver stores bays → length bays ≡ n → n ≤ length stores → others ≡ drop n stores →
+      back ≡ stores_of bays ++ others → AreBack g.size g.faults n stores back
+  closed-back n stores bays others back over count few rest all =
+      let same : back ≡ stores_of bays ++ drop (length bays) stores = all ∙ ap (λ (xs : List D). stores_of bays ++ xs) (rest ∙ ap (λ (m : ℕ). drop m stores) (sym count)) in
+      subst (λ (xs : List D). AreBack g.size g.faults n stores xs) (sym same) (record {
+        count = omega (arith, length-append (stores_of bays) (drop (length bays) stores), length-stores bays, length-drop (length bays) stores, count, few);
+        each = λ k d inside. each-back bays stores (omega (arith, count, few)) over k d;
+        others = ap (λ (m : ℕ). drop m (stores_of bays ++ drop (length bays) stores)) (sym (length-stores bays ∙ count))
+            ∙ drop-front (stores_of bays) (drop (length bays) stores) ∙ ap (λ (m : ℕ). drop m stores) count;
+      })
+
+  -- the bay whose journal tells a fault
+  record IsFaulty (from : ℕ) (bays : List (Bay D g)) (at : BayNo) : Type 0 where
+    k : ℕ
+    inside : k < length bays
+    is : at.0 ≡ from + k
+    tells : (d : Bay D g) → list_any is_fault_entry (get_or bays k d).journal.items ≡ true
+
+  faulty : (from : ℕ) (bays : List (Bay D g)) (at : BayNo) → fault_bay from bays ≡ Some at → IsFaulty from bays at
+  faulty from [] at e = absurd (cc)
+  faulty from (now ∷ bays) at e = go (list_any is_fault_entry now.journal.items) refl e (faulty (from + 1) bays at)
+    where
+      go : (b : Bool) → list_any is_fault_entry now.journal.items ≡ b → fault_bay from (now ∷ bays) ≡ Some at → (fault_bay (from + 1) bays ≡ Some at → IsFaulty (from + 1) bays at) → IsFaulty from (now ∷ bays) at
+      go true is h again =
+          let here : Some (bay from) ≡ Some at = rw is at h in
+          record { k = 0; inside = omega arith; is = ap (λ (b : BayNo). b.0) (sym (some-same (bay from) at here)) ∙ omega arith; tells = λ d. is }
+      go false is h again =
+          let rest = again (rw is at h) in
+          record { k = suc rest.k; inside = omega (arith, rest.inside); is = omega (arith, rest.is); tells = rest.tells }
+
+  -- the count of its store has risen
+  pub fault-rises : (stores : List D) (bays : List (Bay D g)) (others : List D) (at : BayNo) → AreOver stores bays → fault_bay 0 bays ≡ Some at →
+      (at.0 < length bays) × ((d : D) → Rises (g.faults (get_or stores at.0 d)) (g.faults (get_or (stores_of bays ++ others) at.0 d)))
+  fault-rises stores bays others at over e =
+      let f = faulty 0 bays at e in
+      let place : f.k ≡ at.0 = omega (arith, f.is) in
+      let inside : at.0 < length bays = omega (arith, f.inside, place) in (
+        inside,
+        λ d.
+            let b = some-bay bays (omega (arith, inside)) in
+            let o = over at.0 d b inside in
+            let told : list_any is_fault_entry (get_or bays at.0 b).journal.items ≡ true = ap (λ (m : ℕ). list_any is_fault_entry (get_or bays m b).journal.items) (sym place) ∙ f.tells b in
+            subst (λ (x : D). Rises (g.faults (get_or stores at.0 d)) (g.faults x)) (sym (store-at bays others at.0 d b inside))
+            (rises-some (count_faults (get_or bays at.0 b).journal.items) _ _ (count-some _ told) o.faults),
+      )
+
+  -- and so it has where a store has failed at the end
+  pub failed-rises : (stores : List D) (old new : List (Bay D g)) (others : List D) (at : ℕ) → AreOver stores old → HasFailed at old new → length new ≡ length old → (d : D) →
+      Rises (g.faults (get_or stores at d)) (g.faults (get_or (stores_of new ++ others) at d))
+  failed-rises stores old new others at over failed same d =
+      let b = some-bay old (omega (arith, failed.inside)) in
+      let o = over at d b failed.inside in
+      subst (λ (x : D). Rises (g.faults (get_or stores at d)) (g.faults x)) (sym (store-at new others at d b (omega (arith, failed.inside, same))))
+      (rises-later (count_faults (get_or old at b).journal.items) _ _ _ o.faults (failed.risen b))
