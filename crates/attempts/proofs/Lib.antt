@@ -6,5 +6,6 @@ pub mod RoomLemmas
 pub mod TakenLemmas
 pub mod ReadObeys
 pub mod WriteObeys
+pub mod RepairObeys
 pub mod PartLemmas
 pub mod WholeLemmas
