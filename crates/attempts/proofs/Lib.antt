@@ -7,5 +7,9 @@ pub mod TakenLemmas
 pub mod ReadObeys
 pub mod WriteObeys
 pub mod RepairObeys
+pub mod BayLemmas
+pub mod ReadBays
+pub mod WriteBays
+pub mod RepairBays
 pub mod PartLemmas
 pub mod WholeLemmas

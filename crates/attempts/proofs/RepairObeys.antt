@@ -30,7 +30,7 @@ use Rattle.attempts.specs.Discipline.{IsNumber, IsDrawn, IsWithin, Obeys, IsRepa
 use Rattle.attempts.proofs.ObeyLemmas.{obeys-run}
 use Rattle.attempts.proofs.RoomLemmas.{filter-le, all-append, all-map, granted-le, AreBelow, parity-below, bays-below}
 
-any : {A : Type 0} (o : Option A) → IfSome o (λ a. Unit {0})
+pub any : {A : Type 0} (o : Option A) → IfSome o (λ a. Unit {0})
 any (Some a) = tt
 any None = tt
 
