@@ -11,5 +11,9 @@ pub mod BayLemmas
 pub mod ReadBays
 pub mod WriteBays
 pub mod RepairBays
+pub mod PhaseLemmas
+pub mod ReadPhases
+pub mod RepairPhases
+pub mod WritePhases
 pub mod PartLemmas
 pub mod WholeLemmas
