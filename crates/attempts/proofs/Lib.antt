@@ -6,5 +6,14 @@ pub mod RoomLemmas
 pub mod TakenLemmas
 pub mod ReadObeys
 pub mod WriteObeys
+pub mod RepairObeys
+pub mod BayLemmas
+pub mod ReadBays
+pub mod WriteBays
+pub mod RepairBays
+pub mod PhaseLemmas
+pub mod ReadPhases
+pub mod RepairPhases
+pub mod WritePhases
 pub mod PartLemmas
 pub mod WholeLemmas

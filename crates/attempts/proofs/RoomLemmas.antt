@@ -19,7 +19,7 @@ use Rattle.attempts.specs.Reading.{unit_content, row_contents, contents_of, row_
 
 -- Lists
 module _ {X : Type 0} where
-  filter-le : (test : X → Bool) (xs : List X) → length (filter test xs) ≤ length xs
+  pub filter-le : (test : X → Bool) (xs : List X) → length (filter test xs) ≤ length xs
   filter-le test [] = omega arith
   filter-le test (x ∷ xs) = one (test x) (filter-le test xs) where
     one : (b : Bool) → length (filter test xs) ≤ length xs → length (cond b (x ∷ filter test xs) (filter test xs)) ≤ suc (length xs)
@@ -35,7 +35,7 @@ module _ {X : Type 0} where
   flat_map-le f n h [] = omega arith
   flat_map-le f n h (x ∷ xs) = omega (arith, h x, flat_map-le f n h xs, length-append (f x) (flat_map f xs))
 
-  all-append : (P : X → Type 0) (xs ys : List X) → AllByRecursion P xs → AllByRecursion P ys → AllByRecursion P (xs ++ ys)
+  pub all-append : (P : X → Type 0) (xs ys : List X) → AllByRecursion P xs → AllByRecursion P ys → AllByRecursion P (xs ++ ys)
   all-append P [] ys h g = g
   all-append P (x ∷ xs) ys h g = (h.0, all-append P xs ys h.1 g)
 
@@ -85,7 +85,7 @@ parity-below n row h = omega arith
 pub bay-below : (n : ℕ) (row : RowNo) (unit : ℕ) → 1 ≤ n → (bay_of n row unit).0 < n
 bay-below n row unit h = omega arith
 
-bays-below : (n : ℕ) (row : RowNo) → 1 ≤ n → (us : List ℕ) → AreBelow n (bays_of n row us)
+pub bays-below : (n : ℕ) (row : RowNo) → 1 ≤ n → (us : List ℕ) → AreBelow n (bays_of n row us)
 bays-below n row h us = all-made (λ (bay : BayNo). bay.0 < n) (bay_of n row) (λ unit. bay-below n row unit h) us
 
 granted-below : (n : ℕ) (row : RowNo) → 1 ≤ n → (grant : Option Grant) → AreBelow n (parity_granted n row grant)

@@ -29,7 +29,7 @@ use Rattle.attempts.proofs.ObeyLemmas.{obeys-more, obeys-run, obeys-one}
 use Rattle.attempts.proofs.RoomLemmas.{all-made, both-units, granted-le, parity-below, bay-below, others-below, other-bays-le, parts_of}
 use Rattle.attempts.proofs.TakenLemmas.{SoFar, so_far-more, IsTaking, taking-ended, keeps-parity, keeps-wanted, keeps-other, taking-granted, taking-step, until-step, some-bays, IsRowWithin, rows-within, part-within, rows-le, shares-within, claims-within, row_releases-le, row_releases-within, write-refused}
 
-any : {A : Type 0} (o : Option A) → IfSome o (λ a. Unit {0})
+pub any : {A : Type 0} (o : Option A) → IfSome o (λ a. Unit {0})
 any (Some a) = tt
 any None = tt
 
@@ -48,7 +48,7 @@ confirmed-part : (row : Row) (reply : Reply) (o : Option Grant) → IfSome (conf
 confirmed-part row reply None = missing-part row (is_missing reply)
 confirmed-part row reply (Some grant) = held-part row grant (lacks row.others) (held_of reply)
 
-unrefused-part : (row : Row) (reply : Reply) (o : Option Cause) → IfSome (unrefused_row row reply o) (λ (r : Row). r.part ≡ row.part)
+pub unrefused-part : (row : Row) (reply : Reply) (o : Option Cause) → IfSome (unrefused_row row reply o) (λ (r : Row). r.part ≡ row.part)
 unrefused-part row reply (Some cause) = tt
 unrefused-part row reply None = confirmed-part row reply row.parity
 

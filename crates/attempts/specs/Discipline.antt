@@ -1,5 +1,5 @@
 -- What every attempt keeps to, whatever the replies: what it may ask, how much, and how it may end.
-use Rattle.std.specs.Prelude.{ℕ, zero, suc, ◌*◌, ◌^◌, ◌<◌, ◌≤◌, length, Option, Some, None, Result, Ok, Err}
+use Rattle.std.specs.Prelude.{◌≡◌, ℕ, zero, suc, ◌-◌, ◌*◌, ◌^◌, ◌<◌, ◌≤◌, true, length, [], Option, Some, None, IfSome, Result, Ok, Err}
 use Rattle.raid_base.specs.declared.numbers.Number.{Number}
 use Rattle.raid_base.specs.declared.numbers.Spent.{Spent}
 use Rattle.raid_base.specs.declared.messages.Request.{Request}
@@ -16,6 +16,10 @@ use Rattle.stripe_layout.specs.Placement.{units_in}
 use Rattle.attempts.specs.Taking.{Access, Finish}
 use Rattle.attempts.specs.Reading.{read_steps}
 use Rattle.attempts.specs.Writing.{write_steps}
+use Rattle.attempts.specs.declared.Repair.{Repair}
+use Rattle.attempts.specs.declared.Rescue.{Rescue}
+use Rattle.attempts.specs.Mending.{mend_steps}
+use Rattle.attempts.specs.Recovery.{recover_steps}
 
 -- a number that an attempt may carry
 pub record IsNumber (n : Number) : Type 0 where
@@ -80,3 +84,52 @@ ReadsObey = (a : Access) (rows count : ℕ) → IsAccess a rows count → Obeys 
 
 abbrev pub WritesObey : Type 0
 WritesObey = (a : Access) (rows count : ℕ) → IsAccess a rows count → Obeys (IsWithin a.n rows) (IsPlainFinish 0) (4 * a.n * length a.parts) (write_steps a)
+
+-- the slot of a row to rebuild, in an array with so many rows
+pub record IsRepair (m : Repair) (rows : ℕ) : Type 0 where
+  pub least : 3 ≤ m.n
+  pub most : m.n ≤ 16
+  pub id : IsNumber m.id
+  pub row : m.row.0 < rows
+  pub target : m.target.0 < m.n
+
+-- the row to recover
+pub record IsRescue (r : Rescue) (rows : ℕ) : Type 0 where
+  pub least : 3 ≤ r.n
+  pub most : r.n ≤ 16
+  pub id : IsNumber r.id
+  pub row : r.row.0 < rows
+
+-- how a rebuild may end
+abbrev pub IsMendEnd : Ended → Type 0
+IsMendEnd (ends.Read n) = ⊥
+IsMendEnd (ends.Wrote n) = ⊥
+IsMendEnd (ends.Part n made cause) = ⊥
+IsMendEnd (ends.Refused cause) = Unit {0}
+IsMendEnd (ends.Recovered n closed lost) = ⊥
+IsMendEnd ends.Mended = Unit {0}
+
+pub record IsMendFinish (finish : Finish) : Type 0 where
+  pub ended : IsMendEnd finish.ended
+  pub contents : finish.contents ≡ []
+
+-- how a recovery on n bays may end: closed, with a number, and a unit of the row lost or none
+abbrev pub IsRecoveryEnd : ℕ → Ended → Type 0
+IsRecoveryEnd n (ends.Read number) = ⊥
+IsRecoveryEnd n (ends.Wrote number) = ⊥
+IsRecoveryEnd n (ends.Part number made cause) = ⊥
+IsRecoveryEnd n (ends.Refused cause) = Unit {0}
+IsRecoveryEnd n (ends.Recovered number closed lost) = IsNumber number × (closed ≡ true) × IfSome lost (λ unit. unit < n - 1)
+IsRecoveryEnd n ends.Mended = ⊥
+
+pub record IsRecoveryFinish (n : ℕ) (finish : Finish) : Type 0 where
+  pub ended : IsRecoveryEnd n finish.ended
+  pub contents : finish.contents ≡ []
+
+-- Every rebuild and every recovery of a row keeps to this: it asks within the array, all bays together at most four
+-- times for each slot of the row, and gives no contents.
+abbrev pub MendsObey : Type 0
+MendsObey = (m : Repair) (rows : ℕ) → IsRepair m rows → Obeys (IsWithin m.n rows) IsMendFinish (4 * m.n) (mend_steps m)
+
+abbrev pub RecoveriesObey : Type 0
+RecoveriesObey = (r : Rescue) (rows : ℕ) → IsRescue r rows → Obeys (IsWithin r.n rows) (IsRecoveryFinish r.n) (4 * r.n) (recover_steps r)

@@ -1,5 +1,7 @@
 //! Laws of attempts, each the contract of a function without a body.
-ghost use Rattle.attempts.specs.Discipline.{ReadsObey, WritesObey};
+ghost use Rattle.attempts.specs.Discipline.{ReadsObey, WritesObey, MendsObey, RecoveriesObey};
+ghost use Rattle.attempts.specs.Phases.{ReadsKeepPhases, WritesKeepPhases, MendsKeepPhases, RecoveriesKeepPhases};
+ghost use Rattle.attempts.specs.BayBounds.{ReadsObeyAt, WritesObeyAt, MendsObeyAt, RecoveriesObeyAt};
 
 /// Every read, whatever the replies and the numbers drawn, asks within the array, in all at most four times as often as
 /// it has rows times bays, gives no more contents than it has units, and does not end as a repair or a recovery does.
@@ -11,4 +13,59 @@ pub fn reads_keep_bounds()
 /// it has rows times bays, gives no contents, and does not end as a repair or a recovery does.
 pub fn writes_keep_bounds()
     ensures { WritesObey }
+{}
+
+/// Every rebuild of a row, whatever the replies and the numbers drawn, asks within the array, in all at most four times
+/// as often as it has bays, gives no contents, and ends as mended or refused.
+pub fn rebuilds_keep_bounds()
+    ensures { MendsObey }
+{}
+
+/// Every recovery of a row, whatever the replies and the numbers drawn, asks within the array, in all at most four times
+/// as often as it has bays, gives no contents, and ends as refused or as recovered and closed.
+pub fn recoveries_keep_bounds()
+    ensures { RecoveriesObey }
+{}
+
+/// Every read asks each bay at most four times for each of its rows, whatever the replies and the numbers drawn.
+pub fn reads_keep_bay_bounds()
+    ensures { ReadsObeyAt }
+{}
+
+/// And so does every write.
+pub fn writes_keep_bay_bounds()
+    ensures { WritesObeyAt }
+{}
+
+/// Every rebuild of a row asks each bay at most four times.
+pub fn rebuilds_keep_bay_bounds()
+    ensures { MendsObeyAt }
+{}
+
+/// And so does every recovery of a row.
+pub fn recoveries_keep_bay_bounds()
+    ensures { RecoveriesObeyAt }
+{}
+
+/// Every read shares its slots and then gives them back. It claims nothing and puts nothing.
+pub fn reads_keep_phases()
+    ensures { ReadsKeepPhases }
+{}
+
+/// Every write of different rows claims each parity before the row's units, confirms each row that it claimed, and then
+/// puts each slot at most once, under a note that was granted to it, the parity of a row last, and under its number.
+/// Where it is refused it has put nothing.
+pub fn writes_keep_phases()
+    ensures { WritesKeepPhases }
+{}
+
+/// Every rebuild of a row claims the parity first, and puts at most one slot, which was granted to it, once the row is
+/// confirmed.
+pub fn rebuilds_keep_phases()
+    ensures { MendsKeepPhases }
+{}
+
+/// And so does every recovery of a row.
+pub fn recoveries_keep_phases()
+    ensures { RecoveriesKeepPhases }
 {}
