@@ -9,6 +9,7 @@ use raid_base::Cell;
 use std::simd::prelude::*;
 
 /// Adds `from` to `to`, byte by byte.
+#[inline(always)]
 pub fn xor_into(to: &mut [u8; 64], from: &[u8; 64])
     ensures { to.new ≡ xor_of to.old from.now }
 {
