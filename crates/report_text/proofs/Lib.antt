@@ -1,7 +1,16 @@
 pub mod Appending
 pub mod BlockLines
 pub mod JobLookup
-pub mod LineReading
 pub mod OtherUnits
 pub mod RowLines
 pub mod ViewLemmas
+pub mod ReadingWords
+pub mod ContentReading
+pub mod FlagReading
+pub mod CauseReading
+pub mod EndReading
+pub mod ItemReading
+pub mod RunLemmas
+pub mod DraftLemmas
+pub mod ReportReading
+pub mod NameKeys

@@ -1,5 +1,12 @@
 pub mod Appends
+pub mod Beginnings
+pub mod Drafting
+pub mod Drafts
+pub mod Endings
+pub mod Items
+pub mod Ranges
 pub mod Reading
 pub mod Report
 pub mod Rows
 pub mod Views
+pub mod Steps

@@ -27,6 +27,10 @@ pub record ReportOf : Type 0 where
   pub blocks : List (Address × Shown)
   pub closed : List Bool
 
+-- a block of a list, with what is shown of it
+abbrev pub listed : List ℕ × ℕ × Shown → Address × Shown
+listed entry = (record { object = entry.0; block = entry.1 }, entry.2)
+
 -- a content: its block, or that it is lost
 abbrev pub content_text : Content → List ℕ
 content_text (contents.Bytes bytes) = block_text bytes

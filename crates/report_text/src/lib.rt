@@ -6,6 +6,7 @@
 
 mod blocks;
 mod jobs;
+mod laws;
 mod lines;
 mod present;
 mod reading;
@@ -15,6 +16,8 @@ mod sections;
 mod texts;
 mod words;
 
+pub use laws::texts_are_unique;
+pub use reading::{Report, ReportFault, read_report};
 pub use report::{Final, shown, write_report};
 
 #[cfg(test)]

@@ -1,103 +1,81 @@
-//! Lines of a report, read from a text that begins with them.
-ghost use Rattle.std.specs.Prelude.{◌≡◌, ◌≢◌, ◌↔◌, IfOk, length, ◌-◌, ◌^◌, ◌<◌, ◌≤◌, ◌++◌, ◌∷◌, Bool, true, ℕ, List, Some, option_map, decimal};
-ghost use Rattle.text_lines.specs.Lines.{is_separator};
-ghost use Rattle.raid_base.specs.declared.messages.Turn.{Turn};
-ghost use Rattle.report_text.specs.Reading.{IsRead, IsTurn};
-ghost use Rattle.report_text.specs.Report.{row_line, row_lines, row_word, turn_line};
+//! A report, read from its text line by line.
+//!
+//! Each line is read by itself, and then tried behind those before it. So the first line that makes no report with the lines
+//! before it is found where it stands.
+ghost use Rattle.std.specs.Prelude.{◌≡◌, ◌^◌, ◌<◌, ℕ, length, IfOk, IfSome, IfNone, Err};
+ghost use Rattle.report_text.specs.Beginnings.{IsFirstBad};
+ghost use Rattle.report_text.specs.Steps.{StepsOn, IsStuck};
+ghost use Rattle.report_text.specs.Ranges.{IsReport};
+ghost use Rattle.report_text.specs.Report.{ReportOf, report_text};
+ghost use Rattle.report_text.specs.declared.reading.ReportFault.TheVariants.{Bad};
 
-use raid_base::{HostNo, NoMemory, Turn};
+mod causes;
+mod contents;
+mod drafts;
+mod ends;
+mod items;
+mod said;
+mod words;
+
+use drafts::Draft;
+use items::read_line;
+use raid_base::NoMemory;
+pub use said::Report;
 use std::alloc::Global;
-use text_lines::{first_word, read_number};
+use text_lines::first_line;
+use thiserror::Error;
 
-/// The greatest host number.
-const MOST_HOST: u64 = 15;
-
-/// The greatest moment.
-const MOST_MOMENT: u64 = (1 << 40) - 1;
-
-/// The greatest number of rows.
-const ROWS: u64 = 4096;
-
-/// The greatest row number.
-const MOST_ROW: u64 = ROWS - 1;
-
-/// What stands behind a piece, where the text begins with it.
-fn behind<'a>(text: &'a [u8], piece: &[u8]) -> Option<&'a [u8]>
-    ensures { (rest : List ℕ) → (option_map (λ r. r.now) result ≡ Some rest) ↔ (text.now ≡ piece.now ++ rest) }
-{
-    text.strip_prefix(piece)
+/// Why no report was read.
+#[derive(Clone, Copy, Debug, PartialEq, Eq, Error)]
+pub enum ReportFault {
+    /// The first line, counted from 1, such that the lines up to it begin no report.
+    #[error("bad report at line {line}")]
+    Bad { line: u32 },
+    #[error("memory")]
+    NoMemory,
 }
 
-/// The number, `most` at most, that the text begins with, and what stands behind it and its separator `end`.
-fn take_number(text: &[u8], end: u8, most: u64) -> Option<(u64, &[u8])>
-    requires separator { is_separator end ≡ true }
-    requires small { most < 2 ^ 64 - 1 }
-    ensures { (n : ℕ) → (rest : List ℕ) → IsRead result n rest ↔ ((n ≤ most) × (text.now ≡ decimal n ++ end ∷ rest)) }
+/// What has been read with the first line of the text, and what stands behind that line.
+fn read_next(alloc: Global, draft: Draft, text: &[u8]) -> Result<Option<(Draft, &[u8])>, NoMemory>
+    ensures some { IfOk result (λ found. IfSome found (λ step. StepsOn draft text.now step.0 step.1.now)) }
+    ensures none { IfOk result (λ found. IfNone found (IsStuck draft text.now)) }
 {
-    let word = first_word(text);
-    let number = read_number(word)?;
-    if number > most {
-        return None;
-    }
-    let end_on = behind(text, word)?;
-    let rest = behind(end_on, &[end])?;
-    Some((number, rest))
-}
-
-/// The turn whose line the text begins with, and what stands behind the line.
-pub fn read_turn(text: &[u8]) -> Option<(Turn, &[u8])>
-    ensures { (turn : Turn) → (rest : List ℕ) → IsRead result turn rest ↔ (IsTurn turn × (text.now ≡ turn_line turn ++ rest)) }
-{
-    let host_on = behind(text, b"turn ")?;
-    let (host, moment_on) = take_number(host_on, b' ', MOST_HOST)?;
-    let (moment, rest) = take_number(moment_on, b'\n', MOST_MOMENT)?;
-    let turn = Turn {
-        host: HostNo(host as u8),
-        moment,
+    let Some(first) = first_line(text) else {
+        return Ok(None);
     };
-    Some((turn, rest))
-}
-
-/// Whether a row is closed, at the end of its line, and what stands behind the line.
-fn read_row_word(text: &[u8]) -> Option<(bool, &[u8])>
-    ensures { (closed : Bool) → (rest : List ℕ) → IsRead result closed rest ↔ (text.now ≡ row_word closed ++ 10 ∷ rest) }
-{
-    if let Some(rest) = behind(text, b"closed\n") {
-        return Some((true, rest));
+    let Some(line) = read_line(alloc, first.line)? else {
+        return Ok(None);
+    };
+    match draft.take(line)? {
+        Some(later) => Ok(Some((later, first.rest))),
+        None => Ok(None),
     }
-    let rest = behind(text, b"open\n")?;
-    Some((false, rest))
 }
 
-/// Whether this row is closed, by the line that the text begins with, and what stands behind the line.
-pub fn read_row(text: &[u8], row: u64) -> Option<(bool, &[u8])>
-    requires { row < 4096 }
-    ensures { (closed : Bool) → (rest : List ℕ) → IsRead result closed rest ↔ (text.now ≡ row_line row closed ++ rest) }
+/// The report of which the bytes are the text.
+pub fn read_report(alloc: Global, bytes: &[u8]) -> Result<Report, ReportFault>
+    requires short { length bytes.now < 2 ^ 32 }
+    ensures report { IfOk result (λ report. IsReport report × (bytes.now ≡ report_text report)) }
+    ensures same { (report : ReportOf) → IsReport report → bytes.now ≡ report_text report → IfOk result (λ read. read ≡ report) }
+    ensures no_fault { (report : ReportOf) → IsReport report → bytes.now ≡ report_text report → (line : ℕ) → result ≡ Err (Bad line) → ⊥ }
+    ensures bad { (line : ℕ) → result ≡ Err (Bad line) → IsFirstBad line bytes.now }
 {
-    let number_on = behind(text, b"row ")?;
-    let (number, word_on) = take_number(number_on, b' ', MOST_ROW)?;
-    if number != row {
-        return None;
-    }
-    read_row_word(word_on)
-}
-
-/// The rows, from row 0 on, as many as the text begins with lines of and 4096 at most, and what stands behind them.
-pub fn read_rows(alloc: Global, text: &[u8]) -> Result<(Vec<bool>, &[u8]), NoMemory>
-    ensures few { IfOk result (λ found. length found.0.items ≤ 4096) }
-    ensures read { IfOk result (λ found. text.now ≡ row_lines 0 found.0.items ++ found.1.now) }
-    ensures all { IfOk result (λ found. length found.0.items < 4096 → (closed : Bool) → (rest : List ℕ) → found.1.now ≢ row_line (length found.0.items) closed ++ rest) }
-{
-    let mut rows = Vec::new(alloc);
-    let mut left = text;
-    for row in 0..ROWS {
-        let Some((closed, rest)) = read_row(left, row) else {
-            return Ok((rows, left));
-        };
-        match rows.push(closed) {
-            Ok(()) => left = rest,
-            Err(_) => return Err(NoMemory),
+    let mut draft = Draft::new(alloc);
+    let mut left = bytes;
+    let mut line = 1;
+    while !left.is_empty() {
+        match read_next(alloc, draft, left) {
+            Ok(Some((later, rest))) => {
+                draft = later;
+                left = rest;
+                line += 1;
+            }
+            Ok(None) => return Err(ReportFault::Bad { line }),
+            Err(_) => return Err(ReportFault::NoMemory),
         }
     }
-    Ok((rows, left))
+    match draft.finish() {
+        Some(report) => Ok(report),
+        None => Err(ReportFault::Bad { line }),
+    }
 }

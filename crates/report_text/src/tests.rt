@@ -1,7 +1,7 @@
 //! Lines byte for byte, and what rows show.
 
 use crate::lines::{put_block, put_job};
-use crate::reading::{read_rows, read_turn};
+use crate::reading::{ReportFault, read_report};
 use crate::report::{Final, write_report};
 use crate::rows::shown_in;
 use crate::sections::{put_rows, put_turns};
@@ -46,12 +46,12 @@ job 3 13 pastend 1792
 job 3 14 toomanyrows 9
 ";
 
-#[test]
-fn each_end_has_its_line(rt: HostRuntime) -> Result<(), Fail> {
+/// An end of each kind.
+fn ends() -> [JobEnd; 15] {
     let number = Number(18);
     let bay = BayNo(2);
     let cause = Cause::Quit;
-    let ends = [
+    [
         JobEnd::Read { number: Number(17) },
         JobEnd::Wrote { number: Number(33) },
         JobEnd::Part {
@@ -79,22 +79,56 @@ fn each_end_has_its_line(rt: HostRuntime) -> Result<(), Fail> {
         JobEnd::NoObject,
         JobEnd::PastEnd { blocks: 1792 },
         JobEnd::TooManyRows { rows: 9 },
-    ];
-    let contents = [
-        Content::Bytes([0x41; 64]),
-        Content::Lost,
-        Content::Bytes([0; 64]),
-    ];
+    ]
+}
+
+/// What the read of `ends` has read.
+const CONTENTS: [Content; 3] = [
+    Content::Bytes([0x41; 64]),
+    Content::Lost,
+    Content::Bytes([0; 64]),
+];
+
+#[test]
+fn each_end_has_its_line(rt: HostRuntime) -> Result<(), Fail> {
     let mut sink = MemorySink::make(rt.alloc(), 1000, Vec::new(rt.alloc()))?;
-    for (job, end) in ends.iter().enumerate() {
+    for (job, end) in ends().iter().enumerate() {
         let ended = JobResult {
             host: HostNo(3),
             job: job as u32,
             end: *end,
         };
-        put_job(&mut sink, &ended, &contents, 3)?;
+        put_job(&mut sink, &ended, &CONTENTS, 3)?;
     }
     assert!(rt; sink.written() == ENDS);
+    Ok(())
+}
+
+/// A report with these job lines, and little else.
+fn report_with(rt: &HostRuntime, lines: &[u8]) -> Result<Vec<u8>, Fail> {
+    let mut text = Vec::new(rt.alloc());
+    text.extend_from_slice(b"report 1\n")?;
+    text.extend_from_slice(lines)?;
+    text.extend_from_slice(b"turns 0\nrow 0 open\nend\n")?;
+    Ok(text)
+}
+
+#[test]
+fn each_end_is_read_back(rt: HostRuntime) -> Result<(), Fail> {
+    let text = report_with(&rt, ENDS)?;
+    let report = read_report(rt.alloc(), text.as_slice())?;
+    assert_eq!(rt; report.results.len(), 15);
+    for (ended, end) in report.results.iter().zip(&ends()) {
+        assert_eq!(rt; ended.host, HostNo(3));
+        assert_eq!(rt; ended.end, *end);
+    }
+    assert_eq!(rt; report.contents.len(), 15);
+    for (job, contents) in report.contents.iter().enumerate() {
+        let expected: &[Content] = if job == 0 { &CONTENTS } else { &[] };
+        assert!(rt; contents.as_slice() == expected);
+    }
+    let flags = [0, 0, 3, 0, 0, 0, 0, 0, 0, 0, 0, 0, 0, 0, 0];
+    assert!(rt; report.flags.as_slice() == flags.as_slice());
     Ok(())
 }
 
@@ -112,14 +146,12 @@ job 15 10 gave 1 spent 4611686018427387889
 job 15 11 gave 1 quit
 ";
 
-#[test]
-fn each_cause_has_its_words(rt: HostRuntime) -> Result<(), Fail> {
-    let causes = [
-        Cause::Busy {
-            holder: note(1, 17),
-        },
+/// A cause of each kind, with these two notes.
+fn causes(holder: Note, note: Note) -> [Cause; 12] {
+    [
+        Cause::Busy { holder },
         Cause::Late { above: Number(2) },
-        Cause::Young { note: note(0, 16) },
+        Cause::Young { note },
         Cause::Behind { floor: Number(3) },
         Cause::Fault { bay: BayNo(0) },
         Cause::Broken {
@@ -134,9 +166,13 @@ fn each_cause_has_its_words(rt: HostRuntime) -> Result<(), Fail> {
             seen: Number(4611686018427387889),
         },
         Cause::Quit,
-    ];
+    ]
+}
+
+#[test]
+fn each_cause_has_its_words(rt: HostRuntime) -> Result<(), Fail> {
     let mut sink = MemorySink::make(rt.alloc(), 1000, Vec::new(rt.alloc()))?;
-    for (job, cause) in causes.iter().enumerate() {
+    for (job, cause) in causes(note(1, 17), note(0, 16)).iter().enumerate() {
         let ended = JobResult {
             host: HostNo(15),
             job: job as u32,
@@ -148,6 +184,33 @@ fn each_cause_has_its_words(rt: HostRuntime) -> Result<(), Fail> {
         put_job(&mut sink, &ended, &[], 0)?;
     }
     assert!(rt; sink.written() == CAUSES);
+    Ok(())
+}
+
+/// A note of which no more is known than its host and id.
+fn holder(host: u8, id: u64) -> Note {
+    Note {
+        host: HostNo(host),
+        id: Number(id),
+        origin: Number(id),
+        mask: 0,
+        moment: 0,
+    }
+}
+
+#[test]
+fn each_cause_is_read_back(rt: HostRuntime) -> Result<(), Fail> {
+    let text = report_with(&rt, CAUSES)?;
+    let report = read_report(rt.alloc(), text.as_slice())?;
+    assert_eq!(rt; report.results.len(), 12);
+    let causes = causes(holder(1, 17), holder(0, 16));
+    for (ended, cause) in report.results.iter().zip(&causes) {
+        let end = JobEnd::Gave {
+            tries: 1,
+            cause: *cause,
+        };
+        assert_eq!(rt; ended.end, end);
+    }
     Ok(())
 }
 
@@ -262,11 +325,10 @@ fn turn(moment: u64) -> Turn {
     }
 }
 
-/// The report of the smallest array, into a sink with this much room.
-fn written(rt: &HostRuntime, room: u32) -> Result<(MemorySink, bool), Fail> {
-    let script = read_first(rt.alloc(), SCRIPT)?.ok_or("no script")?;
+/// How the jobs of the smallest array end.
+fn results() -> [JobResult; 2] {
     let host = HostNo(1);
-    let results = [
+    [
         JobResult {
             host,
             job: 0,
@@ -277,8 +339,12 @@ fn written(rt: &HostRuntime, room: u32) -> Result<(MemorySink, bool), Fail> {
             job: 1,
             end: JobEnd::Read { number: Number(17) },
         },
-    ];
-    let turns = [
+    ]
+}
+
+/// The turns of the smallest array.
+fn turns() -> [Turn; 7] {
+    [
         turn(1),
         turn(2),
         turn(3),
@@ -286,12 +352,17 @@ fn written(rt: &HostRuntime, room: u32) -> Result<(MemorySink, bool), Fail> {
         turn(5),
         turn(6),
         turn(7),
-    ];
+    ]
+}
+
+/// The report of the smallest array, into a sink with this much room.
+fn written(rt: &HostRuntime, room: u32) -> Result<(MemorySink, bool), Fail> {
+    let script = read_first(rt.alloc(), SCRIPT)?.ok_or("no script")?;
     let view = Final {
         script: &script,
-        results: &results,
+        results: &results(),
         contents: &[Content::Bytes([0x41; 64])],
-        turns: &turns,
+        turns: &turns(),
         cells: &[cell(0x41, 0), cell(0, 0), cell(0x41, 0)],
         opened: &[false],
     };
@@ -318,24 +389,53 @@ fn a_full_sink_has_a_first_part_of_the_report(rt: HostRuntime) -> Result<(), Fai
 }
 
 #[test]
-fn lines_are_read_back(rt: HostRuntime) -> Result<(), Fail> {
-    let (last, left) = read_turn(b"turn 15 1099511627775\nrow").ok_or("no turn")?;
-    assert_eq!(rt; last.host, HostNo(15));
-    assert_eq!(rt; last.moment, 1099511627775);
-    assert!(rt; left == b"row".as_slice());
-    let others: [&[u8]; 6] = [
-        b"turn 16 7\n",
-        b"turn 1 1099511627776\n",
-        b"turn 01 7\n",
-        b"turn 1  7\n",
-        b"turn 1 7",
-        b"turns 1\n",
-    ];
-    for text in others {
-        assert!(rt; read_turn(text).is_none());
-    }
-    let (rows, left) = read_rows(rt.alloc(), b"row 0 closed\nrow 1 open\nrow 3 open\n")?;
-    assert!(rt; rows.as_slice() == [true, false].as_slice());
-    assert!(rt; left == b"row 3 open\n".as_slice());
+fn the_smallest_report_is_read(rt: HostRuntime) -> Result<(), Fail> {
+    let report = read_report(rt.alloc(), REPORT)?;
+    assert!(rt; report.results.as_slice() == results().as_slice());
+    let [wrote, read] = report.contents.as_slice() else {
+        return Err(Fail::from("not two results"));
+    };
+    assert!(rt; wrote.is_empty());
+    assert!(rt; read.as_slice() == [Content::Bytes([0x41; 64])].as_slice());
+    assert!(rt; report.flags.as_slice() == [0, 0].as_slice());
+    assert!(rt; report.turns.as_slice() == turns().as_slice());
+    let [first, second] = report.blocks.as_slice() else {
+        return Err(Fail::from("not two blocks"));
+    };
+    let name = Name::new(b"a").ok_or("no name")?;
+    assert!(rt; first.0 == name && first.1 == 0);
+    assert!(rt; second.0 == name && second.1 == 1);
+    assert_eq!(rt; first.2, Shown::Seen(Content::Bytes([0x41; 64])));
+    assert_eq!(rt; second.2, Shown::Seen(Content::Bytes([0; 64])));
+    assert!(rt; report.rows.as_slice() == [true].as_slice());
     Ok(())
+}
+
+#[test]
+fn the_first_bad_line_is_named(rt: HostRuntime) {
+    let table: [(&[u8], u32); 16] = [
+        (b"", 1),
+        (b"report 2\n", 1),
+        (b"report 1\njob 1 0 lost\njob 1 0 lost\n", 3),
+        (b"report 1\njob 2 0 lost\njob 1 0 lost\n", 3),
+        (b"report 1\njob 01 0 lost\n", 2),
+        (b"report 1\njob 1 0 wrote 0\n", 2),
+        (b"report 1\nturns 0\nrow 0 open\nend", 4),
+        (b"report 1\nturns 0\nrow 0 open\nend\n\n", 5),
+        (b"report 1\nturns 0\nrow 0 open\nend\nx", 5),
+        (b"report 1\nturns 0\nrow 0 open\n", 4),
+        (b"report 1\nturns 1\nrow 0 open\n", 3),
+        (b"report 1\nturns 0\nrow 1 open\n", 3),
+        (b"report 1\nturns 0\nend\n", 3),
+        (b"report 1\nturns 0\nblock a 1 00\n", 3),
+        (b"report 1\nturns 0\nblock a 0 00\nblock a 2 00\n", 4),
+        (
+            b"report 1\nturns 0\nblock a 0 00\nblock b 0 lost\nblock a 0 00\n",
+            5,
+        ),
+    ];
+    for (text, line) in table {
+        let fault = read_report(rt.alloc(), text).err();
+        assert_eq!(rt; fault, Some(ReportFault::Bad { line }));
+    }
 }
