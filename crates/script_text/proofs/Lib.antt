@@ -2,3 +2,13 @@ pub mod FirstLemmas
 pub mod WeightLemmas
 pub mod WriteTexts
 pub mod FirstScripts
+pub mod WordTexts
+pub mod FormLemmas
+pub mod JobSteps
+pub mod LineSteps
+pub mod Says
+pub mod Keeps
+pub mod SaidLines
+pub mod StepKeeps
+pub mod BlockRoom
+pub mod Reading

@@ -2,13 +2,18 @@
 #![tactic(auto)]
 
 mod first;
+mod jobs;
+mod lines;
+mod read;
 mod script;
 #[cfg(test)]
 mod tests;
 mod weights;
+mod words;
 mod write;
 
 pub use first::{FirstForm, first_forms_are_scripts, read_first};
+pub use read::{ScriptFault, read_script};
 pub use script::{HostJobs, MAX_HOSTS, Script};
 pub use weights::{quota, total};
 pub use write::write_script;
