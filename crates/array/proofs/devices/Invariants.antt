@@ -2,5 +2,5 @@ use Rattle.std.proofs.Common.{◌≡◌, replicate}
 use Rattle.raid_base.specs.Cells.{zeros}
 use Rattle.array.proofs.devices.Given as goal
 
-abbrev pub invariant-loop-_device : goal.invariant-loop-_device
-invariant-loop-_device l = l.stores.items ≡ replicate l._device (replicate l.blocks zeros)
+abbrev pub invariant-loop-device : goal.invariant-loop-device
+invariant-loop-device l = l.stores.items ≡ replicate l._device (replicate l.blocks zeros)
