@@ -12,3 +12,7 @@ pub mod SaidLines
 pub mod StepKeeps
 pub mod BlockRoom
 pub mod Reading
+pub mod Runs
+pub mod RunHead
+pub mod RunHosts
+pub mod Complete

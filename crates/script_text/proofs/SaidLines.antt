@@ -65,7 +65,7 @@ jobs-grow a b more at (job ∷ jobs) e o l =
     ap (λ ws. (quit_words job.quit ++ ws) ∷ map (job_words a) jobs) (task-grow a b more at job.task e o.0 (omega (arith, c, l)))
     ∙ ap (λ ls. job_words b job ∷ ls) (jobs-grow a b more (at + blocks_written job.task) jobs e o.1 (omega (arith, c, l)))
 
-order-parts : (at : ℕ) (xs ys : List Job) → InOrder at (xs ++ ys) → InOrder at xs × InOrder (at + all_written xs) ys
+pub order-parts : (at : ℕ) (xs ys : List Job) → InOrder at (xs ++ ys) → InOrder at xs × InOrder (at + all_written xs) ys
 order-parts at [] ys o = (tt, subst (λ (n : ℕ). InOrder n ys) (omega arith) o)
 order-parts at (job ∷ jobs) ys o =
     let rest = order-parts (at + blocks_written job.task) jobs ys o.1 in

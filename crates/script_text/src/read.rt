@@ -44,11 +44,7 @@ fn fault_at(line: u32, fault: LineFault) -> ScriptFault
     }
 }
 
-/// The script of which the bytes are the text.
-///
-/// Where they are no script's text, `Bad` tells the first line such that the lines up to it begin none. `NoMemory` comes
-/// for want of memory alone.
-pub fn read_script(alloc: Global, bytes: &[u8]) -> Result<Script, ScriptFault>
+fn read_text(alloc: Global, bytes: &[u8]) -> Result<Script, ScriptFault>
     requires short { length bytes.now < 2 ^ 32 }
     ensures script { IfOk result (λ script. IsScript script × (bytes.now ≡ script_text script)) }
     ensures bad { (line : ℕ) → (kind : Kind) → result ≡ Err (ScriptFault.Bad line kind) → fault_in bytes.now ≡ Some (line, kind) }
@@ -81,4 +77,18 @@ pub fn read_script(alloc: Global, bytes: &[u8]) -> Result<Script, ScriptFault>
         return Err(ScriptFault::Bad { line, kind });
     }
     Ok(script)
+}
+
+/// The script of which the bytes are the text.
+///
+/// Where they are no script's text, `Bad` tells the first line such that the lines up to it begin none. `NoMemory` comes
+/// for want of memory alone.
+pub fn read_script(alloc: Global, bytes: &[u8]) -> Result<Script, ScriptFault>
+    requires short { length bytes.now < 2 ^ 32 }
+    ensures script { IfOk result (λ script. IsScript script × (bytes.now ≡ script_text script)) }
+    ensures same { (script : ScriptValue) → IsScript script → bytes.now ≡ script_text script → IfOk result (λ read. read ≡ script) }
+    ensures no_fault { (script : ScriptValue) → IsScript script → bytes.now ≡ script_text script → (line : ℕ) → (kind : Kind) → result ≡ Err (ScriptFault.Bad line kind) → ⊥ }
+    ensures bad { (line : ℕ) → (kind : Kind) → result ≡ Err (ScriptFault.Bad line kind) → fault_in bytes.now ≡ Some (line, kind) }
+{
+    read_text(alloc, bytes)
 }
