@@ -18,7 +18,9 @@ use Rattle.block_store.specs.declared.store.Store.{Ghosts}
 use Rattle.bay_device.specs.declared.bay.Bay.{Bay}
 use Rattle.script_text.specs.Script.{Script}
 use Rattle.script_text.specs.Text.{script_text}
-use Rattle.script_text.specs.First.{IsFirstForm, IsForm}
+use Rattle.script_text.specs.First.{IsFirstForm, IsFirstText}
+use Rattle.script_text.specs.Ranges.{IsScript}
+use Rattle.script_text.proofs.FirstScripts.{first_is_script}
 use Rattle.host_engine.specs.History.{faults_in, turns_of}
 use Rattle.report_text.specs.Report.{ReportOf, report_text}
 use Rattle.report_text.specs.Views.{report_in}
@@ -42,7 +44,7 @@ use Rattle.schedule_play.proofs.FirstParity.{first_plays_keep_parity}
 use Rattle.schedule_play.proofs.CloseLemmas.{closed-journals, closed-stores, closed-back, fault-rises, failed-rises}
 use Rattle.schedule_play.proofs.ReportLemmas.{report-is}
 use Rattle.array_cli.specs.declared.run.Outcome.{Outcome}
-use Rattle.array_cli.specs.Runs.{handed_out, HasFailedAt, HasPrinted, HasPlayed, HasRead, IsCall, IsCause, IsEmpty, IsInput, IsPlayCause, IsPlayed, IsRefused, IsScriptPlayed, IsSilent}
+use Rattle.array_cli.specs.Runs.{handed_out, HasFailedAt, HasPrinted, HasPlayed, HasRead, IsCall, IsCause, IsEmpty, IsInput, IsShort, IsPlayCause, IsPlayed, IsRefused, IsScriptPlayed, IsSilent}
 
 is-first : (script : Script) → IsFirstForm script → IsFirst script
 is-first script f =
@@ -303,7 +305,7 @@ module _ {S K D : Type 0} {s : SourceGhosts S} {k : SinkGhosts K} {g : Ghosts D}
 
   -- the playing of the script that was read
   pub played-call : (script : Script) → IsFirstForm script → (bytes : List ℕ) (source later : S) (sink after : K) (stores : List D) (outcome : Outcome D) →
-      (s.tells source ≡ true → (bytes ≡ s.left source) × (s.left later ≡ [])) → bytes ≡ script_text script → length bytes ≤ 65536 →
+      (s.tells source ≡ true → (bytes ≡ s.left source) × (s.left later ≡ [])) → bytes ≡ script_text script → IsShort bytes →
       IsScriptPlayed k g script sink after stores outcome → IsCall s k g source later sink after stores outcome
   played-call script f bytes source later sink after stores outcome all text short p = record {
     cause = cause-of outcome.status p.cause;
@@ -318,8 +320,8 @@ module _ {S K D : Type 0} {s : SourceGhosts S} {k : SinkGhosts K} {g : Ghosts D}
       cause-of WriteFault c = c
       cause-of Words c = c
       cause-of ReadFault c = absurd c
-      cause-of TooLong c = c
-      cause-of (BadScript line kind) c = c
+      cause-of TooLong c = absurd c
+      cause-of (BadScript line kind) c = absurd c
       cause-of (TooMuch total) c = c
       cause-of (TooFewStores have need) c = c
       cause-of (TooSmall bay) c = c
@@ -330,7 +332,7 @@ module _ {S K D : Type 0} {s : SourceGhosts S} {k : SinkGhosts K} {g : Ghosts D}
       is-input : s.tells source ≡ true → IsInput (s.left source)
       is-input told =
           let same : bytes ≡ s.left source = (all told).0 in
-          record { script = script; form = f; text = sym same ∙ text; short = omega (arith, short, ap length same) }
+          record { short = subst IsShort same short; first = (script, f, sym same ∙ text) }
 
       read-of : s.tells source ≡ true → (status : Status) → IsPlayCause k g sink after stores outcome.stores.items status → HasRead (s.left source) (s.left later) status
       read-of told Done c = (is-input told, (all told).1)
@@ -345,3 +347,8 @@ module _ {S K D : Type 0} {s : SourceGhosts S} {k : SinkGhosts K} {g : Ghosts D}
       read-of told (StoreFault bay) c = (is-input told, (all told).1)
       read-of told Memory c = tt
       read-of told NotYet c = absurd c
+
+-- the script that was read is of the first form where its text is that of one
+pub first-read : (text bytes : List ℕ) (read : Script) → text ≡ bytes → IsFirstText text → ((script : Script) → IsScript script → bytes ≡ script_text script → read ≡ script) → IsFirstForm read
+first-read text bytes read same (script, form, is) one =
+    subst IsFirstForm (sym (one script (first_is_script script form) (sym same ∙ is))) form

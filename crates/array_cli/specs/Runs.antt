@@ -1,5 +1,5 @@
 -- A call of the program: what it has read, played and printed, and why it has ended so.
-use Rattle.std.specs.Prelude.{◌≡◌, ℕ, ◌<◌, ◌≤◌, ◌++◌, true, IsTrue, List, [], ◌∷◌, codes, length, map, slice_index_or}
+use Rattle.std.specs.Prelude.{◌≡◌, ℕ, ◌+◌, ◌^◌, ◌<◌, ◌≤◌, ◌++◌, Some, true, IsTrue, List, [], ◌∷◌, codes, length, map, slice_index_or}
 use Rattle.raid_base.specs.declared.status.Status.{Status}
 use Rattle.raid_base.specs.declared.status.Status.TheVariants.{Done, Words, ReadFault, TooLong, BadScript, TooMuch, TooFewStores, TooSmall, StoreFault, WriteFault, Memory, NotYet}
 use Rattle.raid_base.specs.declared.streams.Source.{Ghosts as SourceGhosts}
@@ -9,7 +9,9 @@ use Rattle.raid_base.specs.Streams.{AppendsPart}
 use Rattle.block_store.specs.declared.store.Store.{Ghosts as StoreGhosts}
 use Rattle.script_text.specs.Script.{Script}
 use Rattle.script_text.specs.Text.{script_text}
-use Rattle.script_text.specs.First.{IsFirstForm}
+use Rattle.script_text.specs.First.{IsFirstForm, IsFirstText}
+use Rattle.script_text.specs.Faults.{fault_in}
+use Rattle.script_text.specs.Ranges.{IsScript}
 use Rattle.report_text.specs.Report.{ReportOf, report_text}
 use Rattle.schedule_play.specs.World.{EachAt}
 use Rattle.schedule_play.specs.declared.making.WorldFault.{WorldFault}
@@ -19,12 +21,22 @@ use Rattle.schedule_play.specs.Making.{AreBack, AreLarge, IsFirstSmall}
 use Rattle.schedule_play.specs.Headline.{Headline, Outcome as PlayOutcome}
 use Rattle.array_cli.specs.declared.run.Outcome.{Outcome}
 
--- an input that is played: the text of a script of the first form, of 65,536 bytes at most
+-- an input is read where it has 16 MiB at most
+abbrev pub IsShort : List ℕ → Type 0
+IsShort bytes = length bytes ≤ 2 ^ 24
+
+-- an input that is played: the text of a script of the first form
 pub record IsInput (bytes : List ℕ) : Type 0 where
+  pub short : IsShort bytes
+  pub first : IsFirstText bytes
+
+-- one that isn't played yet: the text of another script
+pub record IsOtherInput (bytes : List ℕ) : Type 0 where
+  pub short : IsShort bytes
   pub script : Script
-  pub form : IsFirstForm script
+  pub is : IsScript script
   pub text : bytes ≡ script_text script
-  pub short : length bytes ≤ 65536
+  pub other : IsFirstText bytes → ⊥
 
 -- what a call hands out, over stores that tell their content
 abbrev pub handed_out : {D : Type 0} → StoreGhosts D → Outcome D → PlayOutcome
@@ -79,17 +91,22 @@ IsPlayCause k g sink after stores back _ = ⊥
 -- and the same of a call
 abbrev pub IsCause : {S K D : Type 0} → SourceGhosts S → SinkGhosts K → StoreGhosts D → S → S → K → K → List D → List D → Status → Type 0
 IsCause s k g source later sink after stores back ReadFault = Rises (s.faults source) (s.faults later)
+IsCause s k g source later sink after stores back TooLong = Unit {0}
+IsCause s k g source later sink after stores back (BadScript line kind) = Unit {0}
 IsCause s k g source later sink after stores back NotYet = Unit {0}
 IsCause s k g source later sink after stores back status = IsPlayCause k g sink after stores back status
 
--- What a call has read: all, and it is played, or it isn't such an input
+-- What a call has read: more than 16 MiB; or all, which is no script's text, for the first line at fault; or all, which is
+-- a script's text that is not played yet, or one that is
 abbrev pub HasRead : List ℕ → List ℕ → Status → Type 0
+HasRead text left TooLong = length left + 2 ^ 24 < length text
+HasRead text left (BadScript line kind) = IsShort text × (fault_in text ≡ Some (line, kind)) × (left ≡ [])
+HasRead text left NotYet = IsOtherInput text × (left ≡ [])
 HasRead text left Done = IsInput text × (left ≡ [])
 HasRead text left (TooFewStores have need) = IsInput text × (left ≡ [])
 HasRead text left (TooSmall bay) = IsInput text × (left ≡ [])
 HasRead text left (StoreFault bay) = IsInput text × (left ≡ [])
 HasRead text left WriteFault = IsInput text × (left ≡ [])
-HasRead text left NotYet = IsInput text → ⊥
 HasRead text left _ = Unit {0}
 
 -- What was played and printed: the report whole at Done, and a first part of it where the sink has failed

@@ -15,11 +15,11 @@ use raid_base::{BayNo, Entry, JobResult, Sink, Source, Status, Turn};
 use report_text::write_report;
 use schedule_play::faults::fault_bay;
 use schedule_play::{World, WorldFault};
-use script_text::{Script, read_first};
+use script_text::{Script, ScriptFault, is_first, read_script};
 use std::alloc::Global;
 
-/// How many bytes a script may have for now.
-const MOST_BYTES: usize = 65_536;
+/// How many bytes a script may have.
+const MOST_BYTES: usize = 1 << 24;
 
 /// What a call hands out: how it has ended, all stores in order, the journals of the devices, the results and the turns.
 ///
@@ -137,14 +137,20 @@ pub fn sim_call<S: Source, K: Sink, D: Store>(
     let bytes = match read_all(alloc, source, MOST_BYTES) {
         Ok(bytes) => bytes,
         Err(InputFault::Read) => return Outcome::early(alloc, Status::ReadFault, stores),
-        Err(InputFault::TooLong) => return Outcome::early(alloc, Status::NotYet, stores),
+        Err(InputFault::TooLong) => return Outcome::early(alloc, Status::TooLong, stores),
         Err(InputFault::NoMemory) => return Outcome::early(alloc, Status::Memory, stores),
     };
-    match read_first(alloc, bytes.as_slice()) {
-        Ok(Some(script)) => play(alloc, &script, sink, stores),
-        Ok(None) => Outcome::early(alloc, Status::NotYet, stores),
-        Err(_) => Outcome::early(alloc, Status::Memory, stores),
+    let script = match read_script(alloc, bytes.as_slice()) {
+        Ok(script) => script,
+        Err(ScriptFault::Bad { line, kind }) => {
+            return Outcome::early(alloc, Status::BadScript { line, kind }, stores);
+        }
+        Err(ScriptFault::NoMemory) => return Outcome::early(alloc, Status::Memory, stores),
+    };
+    if !is_first(bytes.as_slice()) {
+        return Outcome::early(alloc, Status::NotYet, stores);
     }
+    play(alloc, &script, sink, stores)
 }
 
 /// Does what the words behind the program's name say. For now they are the one word `sim`, and with others nothing is

@@ -242,10 +242,33 @@ fn stores_that_are_too_few_or_too_small_are_refused(rt: HostRuntime) -> Result<(
 }
 
 #[test]
-fn other_texts_are_not_yet_played(rt: HostRuntime) -> Result<(), Fail> {
-    let long = vec![in rt.alloc(); b'x'; 65_537]?;
-    for text in [b"".as_slice(), &SCRIPT[1..], long.as_slice()] {
-        assert_eq!(rt; status(rt.alloc(), text, &[1, 1, 1])?, Status::NotYet);
+fn a_text_that_is_no_script_is_told_by_its_line(rt: HostRuntime) -> Result<(), Fail> {
+    let table: [(&[u8], u32, Kind); 6] = [
+        (b"", 1, Kind::End),
+        (&SCRIPT[1..], 1, Kind::Shape),
+        (b"raid 1\ndevices 17\n", 2, Kind::Range),
+        (&SCRIPT[..SCRIPT.len() - 4], 11, Kind::End),
+        (
+            b"raid 1\ndevices 3\nrows 1\nmode order\npatience 3\ntries 2\nobject a 0 0\n",
+            7,
+            Kind::Name,
+        ),
+        (
+            b"raid 1\ndevices 3\nrows 1\nmode order\npatience 3\ntries 2\nend\n\n",
+            8,
+            Kind::Tail,
+        ),
+    ];
+    for (text, line, kind) in table {
+        let bad = Status::BadScript { line, kind };
+        assert_eq!(rt; status(rt.alloc(), text, &[1, 1, 1])?, bad);
     }
+    Ok(())
+}
+
+#[test]
+fn another_script_is_not_yet_played(rt: HostRuntime) -> Result<(), Fail> {
+    let text = b"raid 1\ndevices 3\nrows 1\nmode order\npatience 3\ntries 2\nend\n";
+    assert_eq!(rt; status(rt.alloc(), text, &[1, 1, 1])?, Status::NotYet);
     Ok(())
 }

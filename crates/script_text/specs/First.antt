@@ -1,5 +1,5 @@
 -- Scripts of the first form: one host writes a block of one object on three devices, and reads it.
-use Rattle.std.specs.Prelude.{◌≡◌, ◌^◌, ◌<◌, ◌≤◌, List, [], ◌∷◌, None, decimal}
+use Rattle.std.specs.Prelude.{◌≡◌, ℕ, ◌^◌, ◌<◌, ◌≤◌, List, [], ◌∷◌, None, decimal}
 use Rattle.raid_base.specs.declared.messages.Mode.TheVariants.{Order}
 use Rattle.raid_base.specs.declared.jobs.Job.{Job}
 use Rattle.raid_base.specs.declared.jobs.Task.TheVariants.{Read, Write}
@@ -9,6 +9,7 @@ use Rattle.script_text.specs.declared.first.FirstForm.{FirstForm}
 use Rattle.script_text.specs.declared.first.Fields.{Fields}
 use Rattle.virtual_objects.specs.Objects.{Object}
 use Rattle.script_text.specs.Script.{Script}
+use Rattle.script_text.specs.Text.{script_text}
 
 -- the ranges of the numbers that are free in such a script; its object has two blocks
 pub record AreInRange (form : FirstForm) : Type 0 where
@@ -51,6 +52,10 @@ script_of form = record {
 -- a script of the first form
 abbrev pub IsFirstForm : Script → Type 0
 IsFirstForm script = (form : FirstForm) × IsForm form × (script ≡ script_of form)
+
+-- and the text of one
+abbrev pub IsFirstText : List ℕ → Type 0
+IsFirstText bytes = (script : Script) × IsFirstForm script × (bytes ≡ script_text script)
 
 -- the words that tell the fields
 pub record HasFields (form : FirstForm) (fields : Fields) : Type 0 where

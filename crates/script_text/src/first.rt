@@ -1,7 +1,7 @@
 //! Scripts of the first form: one host writes a block of one object on three devices, and reads it.
 ghost use Rattle.std.specs.Prelude.{◌≡◌, ◌≢◌, ◌++◌, ◌∷◌, [], OnErr, ◌↔◌, IsTrue, IfOk, IfSome, IfNone, Some};
 ghost use Rattle.script_text.specs.declared.first.FirstForm.{FirstForm};
-ghost use Rattle.script_text.specs.First.{AreInRange, HasFields, IsFirstForm, IsForm, jobs_of, objects_of, script_of};
+ghost use Rattle.script_text.specs.First.{AreInRange, HasFields, IsFirstForm, IsFirstText, IsForm, jobs_of, objects_of, script_of};
 ghost use Rattle.raid_base.specs.Names.{IsNameText};
 ghost use Rattle.text_lines.specs.Blocks.{IsBlock};
 ghost use Rattle.script_text.specs.Ranges.{IsScript};
@@ -146,6 +146,13 @@ pub(crate) fn read_form(bytes: &[u8]) -> Option<FirstForm>
         return None;
     }
     Some(form)
+}
+
+/// Whether the bytes are the text of a script of the first form.
+pub fn is_first(bytes: &[u8]) -> bool
+    ensures { IsTrue result ↔ IsFirstText bytes.now }
+{
+    read_form(bytes).is_some()
 }
 
 /// A job that the host does not stop in.
