@@ -9,3 +9,6 @@ pub mod read_try;
 pub mod stages;
 
 pub use read_try::ReadTry;
+
+#[cfg(test)]
+mod tests;

@@ -5,3 +5,4 @@ pub mod PuttingLemmas
 pub mod DrawnLemmas
 pub mod AnsweredLemmas
 pub mod TryLemmas
+pub mod TestParts

@@ -111,35 +111,29 @@ fn rebuilds(rt: &impl Abort, target: u8, steps: &[Step], ended: Ended)
 
 const HELD: Reply = Reply::Held { cell: None };
 
+/// The steps of a rebuild of unit 1, which showed no cell, with the cell that is put.
+fn unit_steps(parity: Reply, rebuilt: Cell) -> [Step; 9] {
+    [
+        claim(2, parity),
+        shown(3, 1),
+        claim(0, granted(None, 12)),
+        shown(1, 4),
+        confirm(HELD),
+        put(0, rebuilt, Reply::Done),
+        release(3),
+        release(1),
+        release(2),
+    ]
+}
+
 #[test]
 fn puts_what_the_others_make_of_the_cell(rt: HostRuntime) {
-    let blank = granted(None, 12);
-    let unit = [
-        shown(2, 7),
-        shown(3, 1),
-        claim(0, blank),
-        shown(1, 4),
-        confirm(HELD),
-        put(0, cell(2, 0), Reply::Done),
-        release(3),
-        release(1),
-        release(2),
-    ];
+    let unit = unit_steps(granted(Some(cell(7, 0)), 40), cell(2, 0));
     rebuilds(&rt, 0, &unit, Ended::Mended);
-    let lost_unit = [
-        claim(2, granted(Some(cell(5, 2)), 40)),
-        shown(3, 1),
-        claim(0, blank),
-        shown(1, 4),
-        confirm(HELD),
-        put(0, cell(0, 2), Reply::Done),
-        release(3),
-        release(1),
-        release(2),
-    ];
+    let lost_unit = unit_steps(granted(Some(cell(5, 2)), 40), cell(0, 2));
     rebuilds(&rt, 0, &lost_unit, Ended::Mended);
     let parity = [
-        claim(2, blank),
+        claim(2, granted(None, 12)),
         shown(3, 1),
         claim(0, granted(Some(cell(0, 2)), 40)),
         shown(1, 4),
@@ -150,7 +144,11 @@ fn puts_what_the_others_make_of_the_cell(rt: HostRuntime) {
         release(1),
     ];
     rebuilds(&rt, 2, &parity, Ended::Mended);
-    let shows_a_cell = [
+}
+
+#[test]
+fn a_cell_that_is_shown_is_left(rt: HostRuntime) {
+    let steps = [
         shown(2, 7),
         shown(3, 1),
         shown(0, 2),
@@ -161,7 +159,7 @@ fn puts_what_the_others_make_of_the_cell(rt: HostRuntime) {
         release(1),
         release(2),
     ];
-    rebuilds(&rt, 0, &shows_a_cell, Ended::Mended);
+    rebuilds(&rt, 0, &steps, Ended::Mended);
 }
 
 #[test]
@@ -186,6 +184,22 @@ fn refusals_give_back_what_is_held(rt: HostRuntime) {
         release(2),
     ];
     rebuilds(&rt, 0, &busy, Ended::Refused(Cause::Busy { holder: NOTE }));
+}
+
+#[test]
+fn replies_to_a_claim_refuse_with_their_causes(rt: HostRuntime) {
+    let above = Number(48);
+    let bay = BayNo(3);
+    let cases = [
+        (Reply::Late { above }, Cause::Late { above }),
+        (Reply::Young { note: NOTE }, Cause::Young { note: NOTE }),
+        (Reply::Fault, Cause::Fault { bay }),
+        (Reply::Missing { floor: Number(17) }, Cause::Gone { bay }),
+    ];
+    for (reply, cause) in cases {
+        let steps = [shown(2, 7), claim(3, reply), release(2)];
+        rebuilds(&rt, 0, &steps, Ended::Refused(cause));
+    }
 }
 
 /// The steps of a rebuild that is refused after its claims, at the confirm or at the put.

@@ -237,6 +237,24 @@ fn refused(parity: Reply, confirmed: Step, done: Step, last: Step) -> [Step; 9] 
 
 #[test]
 fn a_refused_recovery_keeps_what_it_seized(rt: HostRuntime) {
+    let changed = Cause::Changed { row: ROW };
+    let fault = Cause::Fault { bay: BayNo(2) };
+    let no_note = Reply::NoNote { life: 0 };
+    let plain = granted(7, 0, None);
+    let noted = granted(7, 0, Some(note(1)));
+    let cases = [
+        (refused(plain, confirm(no_note), None, release(2)), changed),
+        (refused(plain, confirm(MISSING), None, release(2)), changed),
+        (refused(noted, confirm(no_note), None, None), changed),
+        (refused(noted, confirm(Reply::Fault), None, None), fault),
+    ];
+    for (steps, cause) in cases {
+        recovers(&rt, &steps, Ended::Refused(cause));
+    }
+}
+
+#[test]
+fn the_note_of_the_parity_stays_after_a_put_that_was_not_done(rt: HostRuntime) {
     let spent = Cause::Spent {
         seen: Number(NUMBERS_END - 1),
     };
@@ -248,19 +266,13 @@ fn a_refused_recovery_keeps_what_it_seized(rt: HostRuntime) {
         life: 0,
         seized: None,
     };
-    let changed = Cause::Changed { row: ROW };
     let seized = Cause::Seized { row: ROW };
     let fault = Cause::Fault { bay: BayNo(2) };
-    let no_note = Reply::NoNote { life: 0 };
     let plain = granted(7, 0, None);
-    let noted = granted(7, 0, Some(note(1)));
     let held = confirm(HELD);
-    let not_noted = put(cell(7, 0), no_note);
+    let not_noted = put(cell(7, 0), Reply::NoNote { life: 0 });
     let failed = put(cell(7, 0), Reply::Fault);
     let cases = [
-        (refused(plain, confirm(no_note), None, release(2)), changed),
-        (refused(noted, confirm(no_note), None, None), changed),
-        (refused(noted, confirm(Reply::Fault), None, None), fault),
         (refused(late, held, None, release(2)), spent),
         (refused(plain, held, not_noted, None), seized),
         (refused(plain, held, failed, None), fault),
@@ -268,15 +280,34 @@ fn a_refused_recovery_keeps_what_it_seized(rt: HostRuntime) {
     for (steps, cause) in cases {
         recovers(&rt, &steps, Ended::Refused(cause));
     }
+}
+
+#[test]
+fn replies_to_a_claim_refuse_with_their_causes(rt: HostRuntime) {
+    let noted = granted(7, 0, Some(note(1)));
     let holder = note(0);
-    let busy = [
-        claim(2, noted),
-        claim(3, granted(1, 0, None)),
-        claim(0, Reply::Busy { holder }),
-        release(3),
+    let above = Number(48);
+    let cases = [
+        (Reply::Busy { holder }, Cause::Busy { holder }),
+        (Reply::Late { above }, Cause::Late { above }),
+        (Reply::Young { note: holder }, Cause::Young { note: holder }),
+        (Reply::Fault, Cause::Fault { bay: BayNo(0) }),
     ];
-    recovers(&rt, &busy, Ended::Refused(Cause::Busy { holder }));
-    let broken = [
+    for (reply, cause) in cases {
+        let steps = [
+            claim(2, noted),
+            claim(3, granted(1, 0, None)),
+            claim(0, reply),
+            release(3),
+        ];
+        recovers(&rt, &steps, Ended::Refused(cause));
+    }
+}
+
+#[test]
+fn a_second_missing_bay_breaks_the_row(rt: HostRuntime) {
+    let plain = granted(7, 0, None);
+    let steps = [
         claim(2, plain),
         claim(3, MISSING),
         claim(0, plain),
@@ -286,9 +317,6 @@ fn a_refused_recovery_keeps_what_it_seized(rt: HostRuntime) {
     ];
     let first = BayNo(3);
     let second = BayNo(1);
-    recovers(
-        &rt,
-        &broken,
-        Ended::Refused(Cause::Broken { first, second }),
-    );
+    let broken = Cause::Broken { first, second };
+    recovers(&rt, &steps, Ended::Refused(broken));
 }

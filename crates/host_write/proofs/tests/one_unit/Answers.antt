@@ -1,29 +1,17 @@
-use Rattle.std.proofs.Common.{◌++◌, [], ◌∷◌, eqb, refl, ap, sym, ◌∙◌, subst, arith}
-use Rattle.std.specs.List.{IsDistinct}
-use Rattle.std.proofs.lemmas.List.Elements.{All-cons, All-nil}
+use Rattle.std.proofs.Common.{◌++◌, [], ◌∷◌, refl, ap, sym, ◌∙◌, subst, arith}
 use Rattle.raid_base.specs.declared.jobs.RowPart.{RowPart}
 use Rattle.attempts.specs.Parts.{blocks_in}
-use Rattle.virtual_objects.specs.RowParts.{IsPart, AreRowParts}
+use Rattle.virtual_objects.specs.RowParts.{AreRowParts}
+use Rattle.host_write.proofs.TestParts.{one-part}
 use Rattle.host_write.proofs.tests.one_unit.Goals as goal
-
-apart : IsDistinct eqb (0 ∷ [])
-unfolding IsDistinct
-apart = (tt, tt)
 
 pub returns-clause-parts : goal.returns-clause-parts
 returns-clause-parts c =
-    let part : RowPart = record { row = record { 0 = 0 }; mask = 1; at = 0; count = 1 } in
-    let is : IsPart 3 part = record { some = omega arith; within = omega arith; counted = refl } in
-    let are : AreRowParts 3 (part ∷ []) = record {
-      some = omega arith;
-      few = omega arith;
-      rows_apart = apart;
-      each = All-cons (IsPart 3) part [] is (All-nil (IsPart 3));
-      in_turn = (refl, tt);
-    } in
-    subst (AreRowParts 3) (sym (c.push.ensures.items ∙ ap (λ xs. xs ++ part ∷ []) c.new-parts.ensures)) are
+    let part : RowPart = record { row = record { 0 = 5 }; mask = 2; at = 0; count = 1 } in
+    subst (AreRowParts 4) (sym (c.push.ensures.items ∙ ap (λ xs. xs ++ part ∷ []) c.new-parts.ensures))
+    (one-part part (record { some = omega arith; within = omega arith; counted = refl }) refl)
 
 pub returns-clause-count : goal.returns-clause-count
 returns-clause-count c =
-    let part : RowPart = record { row = record { 0 = 0 }; mask = 1; at = 0; count = 1 } in
+    let part : RowPart = record { row = record { 0 = 5 }; mask = 2; at = 0; count = 1 } in
     ap blocks_in (c.push.ensures.items ∙ ap (λ xs. xs ++ part ∷ []) c.new-parts.ensures)
