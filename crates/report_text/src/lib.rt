@@ -1,7 +1,7 @@
 //! The text of a report.
 //!
 //! A report says how each job ended and what reads have read, the turns, what each block of each object holds, and which
-//! rows are closed. It is written to a sink line by line, with no memory but small buffers.
+//! rows are closed. It is written to a sink line by line, with no memory but small buffers, and read back from its text.
 #![tactic(auto)]
 
 mod blocks;

@@ -1,7 +1,7 @@
 //! Lines byte for byte, and what rows show.
 
 use crate::lines::{put_block, put_job};
-use crate::reading::{ReportFault, read_report};
+use crate::reading::{Report, ReportFault, read_report};
 use crate::report::{Final, write_report};
 use crate::rows::shown_in;
 use crate::sections::{put_rows, put_turns};
@@ -104,19 +104,21 @@ fn each_end_has_its_line(rt: HostRuntime) -> Result<(), Fail> {
     Ok(())
 }
 
-/// A report with these job lines, and little else.
-fn report_with(rt: &HostRuntime, lines: &[u8]) -> Result<Vec<u8>, Fail> {
+/// What is read of a report with these job lines, and little else.
+fn read_with(rt: &HostRuntime, lines: &[u8]) -> Result<Report, Fail> {
     let mut text = Vec::new(rt.alloc());
     text.extend_from_slice(b"report 1\n")?;
     text.extend_from_slice(lines)?;
     text.extend_from_slice(b"turns 0\nrow 0 open\nend\n")?;
-    Ok(text)
+    if text.len() > 2000 {
+        return Err(Fail::from("a long text"));
+    }
+    Ok(read_report(rt.alloc(), text.as_slice())?)
 }
 
 #[test]
 fn each_end_is_read_back(rt: HostRuntime) -> Result<(), Fail> {
-    let text = report_with(&rt, ENDS)?;
-    let report = read_report(rt.alloc(), text.as_slice())?;
+    let report = read_with(&rt, ENDS)?;
     assert_eq!(rt; report.results.len(), 15);
     for (ended, end) in report.results.iter().zip(&ends()) {
         assert_eq!(rt; ended.host, HostNo(3));
@@ -200,8 +202,7 @@ fn holder(host: u8, id: u64) -> Note {
 
 #[test]
 fn each_cause_is_read_back(rt: HostRuntime) -> Result<(), Fail> {
-    let text = report_with(&rt, CAUSES)?;
-    let report = read_report(rt.alloc(), text.as_slice())?;
+    let report = read_with(&rt, CAUSES)?;
     assert_eq!(rt; report.results.len(), 12);
     let causes = causes(holder(1, 17), holder(0, 16));
     for (ended, cause) in report.results.iter().zip(&causes) {
