@@ -109,8 +109,11 @@ fn with_line(rt: &HostRuntime, number: usize, text: &[u8]) -> Result<Vec<u8>, Fa
     Ok(bytes)
 }
 
-/// What is wrong with a text.
+/// What is wrong with a text of less than 10,000 bytes.
 fn fault(rt: &HostRuntime, bytes: &[u8]) -> Option<ScriptFault> {
+    if bytes.len() >= 10_000 {
+        return None;
+    }
     read_script(rt.alloc(), bytes).err()
 }
 
