@@ -1,5 +1,5 @@
 -- A call of the program: what it has read, played and printed, and why it has ended so.
-use Rattle.std.specs.Prelude.{◌≡◌, ℕ, ◌+◌, ◌^◌, ◌<◌, ◌≤◌, ◌++◌, Some, true, IsTrue, List, [], ◌∷◌, codes, length, map, slice_index_or}
+use Rattle.std.specs.Prelude.{◌≡◌, ◌⊎◌, ℕ, ◌+◌, ◌^◌, ◌<◌, ◌≤◌, ◌++◌, true, IsTrue, List, [], Option, Some, None, length, map, slice_index_or}
 use Rattle.raid_base.specs.declared.status.Status.{Status}
 use Rattle.raid_base.specs.declared.status.Status.TheVariants.{Done, Words, ReadFault, TooLong, BadScript, TooMuch, TooFewStores, TooSmall, StoreFault, WriteFault, Memory, NotYet}
 use Rattle.raid_base.specs.declared.streams.Source.{Ghosts as SourceGhosts}
@@ -20,6 +20,7 @@ use Rattle.schedule_play.specs.declared.making.WorldFault.TheVariants.{TooFew, N
 use Rattle.schedule_play.specs.Making.{AreBack, AreLarge, IsFirstSmall}
 use Rattle.schedule_play.specs.Headline.{Headline, Outcome as PlayOutcome}
 use Rattle.array_cli.specs.declared.run.Outcome.{Outcome}
+use Rattle.array_cli.specs.declared.words.Command.{Command}
 
 -- an input is read where it has 16 MiB at most
 abbrev pub IsShort : List ℕ → Type 0
@@ -138,12 +139,13 @@ pub record IsCall {S K D : Type 0} (s : SourceGhosts S) (k : SinkGhosts K) (g : 
       HasPlayed g (s.left source) (k.written sink) (k.written after) outcome outcome.status
   pub silent : IsSilent sink after outcome outcome.status
 
--- the words are the one word sim
-abbrev pub AreSim : List (List ℕ) → Type 0
-AreSim words = words ≡ codes "sim" ∷ []
+-- the status of words that ask for no call: there is no such command, or it is not done yet
+abbrev pub status_without_call : Option Command → Status
+status_without_call None = Words
+status_without_call (Some command) = NotYet
 
--- with other words nothing is done yet
-pub record IsNotYet {D : Type 0} (stores : List D) (outcome : Outcome D) : Type 0 where
-  pub status : outcome.status ≡ NotYet
+-- No call is made: the stores are as they were, and nothing was played
+pub record IsNoCall {D : Type 0} (command : Option Command) (stores : List D) (outcome : Outcome D) : Type 0 where
+  pub status : (outcome.status ≡ status_without_call command) ⊎ (outcome.status ≡ Memory)
   pub stores_back : outcome.stores.items ≡ stores
   pub empty : IsEmpty outcome

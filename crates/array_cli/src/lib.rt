@@ -9,4 +9,4 @@ pub mod words;
 
 pub use input::{InputFault, read_all};
 pub use run::{Outcome, array, sim_call};
-pub use words::{exit_number, is_sim};
+pub use words::{Command, exit_number, read_command};

@@ -1,17 +1,19 @@
 //! A run of a script from its text to its report.
-ghost use Rattle.std.specs.Prelude.{◌≡◌, ◌++◌, map, string_bytes};
+ghost use Rattle.std.specs.Prelude.{◌≡◌, ◌≢◌, ◌++◌, Some, map, string_bytes};
 ghost use Rattle.schedule_play.specs.Gathering.{IsClosable};
 ghost use Rattle.schedule_play.specs.Making.{stores_of};
 ghost use Rattle.script_text.specs.First.{IsFirstForm};
 ghost use Rattle.report_text.specs.Report.{report_text};
 ghost use Rattle.report_text.specs.Views.{report_in};
 ghost use Rattle.raid_base.specs.declared.status.Status.TheVariants.{StoreFault};
-ghost use Rattle.array_cli.specs.Runs.{AreSim, HasPrinted, IsCall, IsEmpty, IsNotYet, IsRefused, IsScriptPlayed};
+ghost use Rattle.array_cli.specs.Commands.{command_of};
+ghost use Rattle.array_cli.specs.Runs.{HasPrinted, IsCall, IsEmpty, IsNoCall, IsRefused, IsScriptPlayed};
+ghost use Rattle.array_cli.specs.declared.words.Command.TheVariants.{Sim};
 
 use crate::input::{InputFault, read_all};
-use crate::words::is_sim;
+use crate::words::{Command, read_command};
 use block_store::Store;
-use raid_base::{BayNo, Entry, JobResult, Sink, Source, Status, Turn};
+use raid_base::{BayNo, Entry, JobResult, NoMemory, Sink, Source, Status, Turn};
 use report_text::write_report;
 use schedule_play::faults::fault_bay;
 use schedule_play::{World, WorldFault};
@@ -153,8 +155,7 @@ pub fn sim_call<S: Source, K: Sink, D: Store>(
     play(alloc, &script, sink, stores)
 }
 
-/// Does what the words behind the program's name say. For now they are the one word `sim`, and with others nothing is
-/// touched.
+/// Does what the words behind the program's name ask for. For now only `sim` is done: with other words nothing is touched.
 pub fn array<S: Source, K: Sink, D: Store>(
     alloc: Global,
     words: &[String],
@@ -162,12 +163,13 @@ pub fn array<S: Source, K: Sink, D: Store>(
     sink: &mut K,
     stores: Vec<D>,
 ) -> Outcome<D>
-    ensures sim { AreSim (map string_bytes words.now) → IsCall S.Source K.Sink D.Store source.old source.new sink.old sink.new stores.items result }
-    ensures other { (AreSim (map string_bytes words.now) → ⊥) → IsNotYet stores.items result × (source.new ≡ source.old) × (sink.new ≡ sink.old) }
+    ensures sim { command_of (map string_bytes words.now) ≡ Some Sim → IsCall S.Source K.Sink D.Store source.old source.new sink.old sink.new stores.items result }
+    ensures others { command_of (map string_bytes words.now) ≢ Some Sim → IsNoCall (command_of (map string_bytes words.now)) stores.items result × (source.new ≡ source.old) × (sink.new ≡ sink.old) }
 {
-    if is_sim(words) {
-        sim_call(alloc, source, sink, stores)
-    } else {
-        Outcome::early(alloc, Status::NotYet, stores)
+    match read_command(alloc, words) {
+        Ok(Some(Command::Sim)) => sim_call(alloc, source, sink, stores),
+        Ok(Some(_)) => Outcome::early(alloc, Status::NotYet, stores),
+        Ok(None) => Outcome::early(alloc, Status::Words, stores),
+        Err(NoMemory) => Outcome::early(alloc, Status::Memory, stores),
     }
 }

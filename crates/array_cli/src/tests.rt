@@ -1,6 +1,6 @@
 //! Inputs of a size that is taken, of one byte more, and of a source that fails; words and exit numbers; the smallest run.
 
-use crate::{InputFault, Outcome, exit_number, is_sim, read_all, sim_call};
+use crate::{Command, InputFault, Outcome, array, exit_number, read_all, read_command, sim_call};
 use block_store::{FailingStore, MemoryStore, Store};
 use raid_base::{BayNo, Kind, MemorySink, MemorySource, NoMemory, Status};
 use std::alloc::Global;
@@ -63,25 +63,57 @@ fn a_source_that_fails_is_a_read_fault(rt: HostRuntime) -> Result<(), Fail> {
     Ok(())
 }
 
+/// Whether these words ask for this command.
+fn asks(alloc: Global, texts: &[&str], command: Option<Command>) -> Result<bool, Fail> {
+    let mut words = Vec::new(alloc);
+    for text in texts {
+        words.push(String::from_str(alloc, *text)?)?;
+    }
+    Ok(read_command(alloc, words.as_slice())? == command)
+}
+
 #[test]
-fn only_the_one_word_sim_is_taken(rt: HostRuntime) -> Result<(), Fail> {
-    let alloc = rt.alloc();
-    let table: [(&[&str], bool); 8] = [
-        (&["sim"], true),
-        (&[], false),
-        (&[""], false),
-        (&["si"], false),
-        (&["sims"], false),
-        (&["Sim"], false),
-        (&["sim", "--"], false),
-        (&["run"], false),
+fn sim_run_and_a_load_are_commands(rt: HostRuntime) -> Result<(), Fail> {
+    let table: [(&[&str], Command); 4] = [
+        (&["sim"], Command::Sim),
+        (&["run"], Command::Run),
+        (&["load", "1"], Command::Load { jobs: 1 }),
+        (&["load", "1500"], Command::Load { jobs: 1_500 }),
     ];
-    for (texts, taken) in &table {
-        let mut words = Vec::new(alloc);
-        for text in *texts {
-            words.push(String::from_str(alloc, *text)?)?;
-        }
-        assert_eq!(rt; is_sim(words.as_slice()), *taken);
+    for (texts, command) in &table {
+        assert!(rt; asks(rt.alloc(), texts, Some(*command))?);
+    }
+    Ok(())
+}
+
+#[test]
+fn other_words_are_no_command(rt: HostRuntime) -> Result<(), Fail> {
+    let table: [&[&str]; 22] = [
+        &[],
+        &[""],
+        &["", ""],
+        &["si"],
+        &["simm"],
+        &["Sim"],
+        &["sim", "--"],
+        &["--", "sim"],
+        &["sim", "sim"],
+        &["run", "x"],
+        &["help"],
+        &["--help"],
+        &["load"],
+        &["load", ""],
+        &["load", "0"],
+        &["load", "01"],
+        &["load", "+5"],
+        &["load", "-5"],
+        &["load", "1501"],
+        &["load", "18446744073709551617"],
+        &["load", "5", "5"],
+        &["load", "--", "5"],
+    ];
+    for texts in &table {
+        assert!(rt; asks(rt.alloc(), texts, None)?);
     }
     Ok(())
 }
@@ -270,5 +302,40 @@ fn a_text_that_is_no_script_is_told_by_its_line(rt: HostRuntime) -> Result<(), F
 fn another_script_is_not_yet_played(rt: HostRuntime) -> Result<(), Fail> {
     let text = b"raid 1\ndevices 3\nrows 1\nmode order\npatience 3\ntries 2\nend\n";
     assert_eq!(rt; status(rt.alloc(), text, &[1, 1, 1])?, Status::NotYet);
+    Ok(())
+}
+
+/// A call with one word on the smallest script over three stores.
+fn call_with(alloc: Global, word: &str) -> Result<(Outcome<MemoryStore>, MemorySink, usize), Fail> {
+    let words = vec![in alloc; String::from_str(alloc, word)?]?;
+    let mut source = MemorySource::make(SCRIPT.to_vec(alloc)?, Vec::new(alloc));
+    let mut sink = MemorySink::make(alloc, 4_096, Vec::new(alloc))?;
+    let mut stores = Vec::new(alloc);
+    for _store in 0..3 {
+        stores.push(MemoryStore::make(alloc, 1)?)?;
+    }
+    let outcome = array(alloc, words.as_slice(), &mut source, &mut sink, stores);
+    Ok((outcome, sink, source.left().len()))
+}
+
+#[test]
+fn the_word_sim_plays_the_script(rt: HostRuntime) -> Result<(), Fail> {
+    let (outcome, sink, left) = call_with(rt.alloc(), "sim")?;
+    assert_eq!(rt; outcome.status, Status::Done);
+    assert_eq!(rt; sink.written(), REPORT);
+    assert_eq!(rt; left, 0);
+    Ok(())
+}
+
+#[test]
+fn other_words_touch_nothing(rt: HostRuntime) -> Result<(), Fail> {
+    for (word, status) in [("run", Status::NotYet), ("load", Status::Words)] {
+        let (outcome, sink, left) = call_with(rt.alloc(), word)?;
+        assert_eq!(rt; outcome.status, status);
+        assert_eq!(rt; outcome.stores.len(), 3);
+        assert!(rt; outcome.turns.is_empty());
+        assert!(rt; sink.written().is_empty());
+        assert_eq!(rt; left, SCRIPT.len());
+    }
     Ok(())
 }
