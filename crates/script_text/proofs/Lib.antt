@@ -16,3 +16,4 @@ pub mod Runs
 pub mod RunHead
 pub mod RunHosts
 pub mod Complete
+pub mod FirstBad

@@ -6,3 +6,4 @@ pub mod First
 pub mod Forms
 pub mod Faults
 pub mod Steps
+pub mod Beginnings

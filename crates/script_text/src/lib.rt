@@ -14,7 +14,9 @@ mod words;
 mod write;
 
 pub use first::{FirstForm, first_forms_are_scripts, is_first, read_first};
-pub use laws::{scripts_have_their_own_texts, texts_without_fault_are_scripts};
+pub use laws::{
+    faults_are_told_where_they_are, scripts_have_their_own_texts, texts_without_fault_are_scripts,
+};
 pub use read::{ScriptFault, read_script};
 pub use script::{HostJobs, MAX_HOSTS, Script};
 pub use weights::{quota, total};
