@@ -1,6 +1,8 @@
 -- Walks that keep the order of an attempt.
-use Rattle.std.proofs.Common.{◌≡◌, inr, sym, refl, subst, ℕ, List, [], ◌∷◌, Option, Some, None, IfSome, map, flat_map}
-use Rattle.std.specs.List.{AllByRecursion}
+use Rattle.std.proofs.Common.{◌≡◌, ◌⊎◌, inl, inr, sym, ap, refl, subst, ◌∙◌, ℕ, zero, suc, ◌+◌, ◌≤◌, ◌-◌, ◌||◌, ◌&&◌, ◌==◌, Bool, true, false, List, [], ◌∷◌, Option, Some, None, IfSome, map, flat_map, arith}
+use Rattle.std.specs.List.{AllByRecursion, range_with_len}
+use Rattle.std.proofs.lemmas.Bool.{eqb-true, eq-eqb, ne_eqb}
+use Rattle.std.proofs.lemmas.Nat.{mod_below}
 use Rattle.raid_base.specs.declared.numbers.BayNo.{BayNo}
 use Rattle.raid_base.specs.declared.numbers.RowNo.{RowNo}
 use Rattle.raid_base.specs.declared.numbers.Number.{Number}
@@ -10,9 +12,11 @@ use Rattle.raid_base.specs.declared.messages.Reply.{Reply}
 use Rattle.raid_base.specs.declared.messages.Errand.{Errand}
 use Rattle.raid_base.specs.declared.messages.Grant.{Grant}
 use Rattle.raid_base.specs.Steps.{Steps, Ends, bind, go_on, Walk, Through, Stopped, Phase, run}
+use Rattle.stripe_layout.specs.Placement.{bay, parity_at, parity_bay, bay_of, units}
+use Rattle.stripe_layout.proofs.Wrapping.{wrap_apart}
 use Rattle.attempts.specs.Taking.{Row}
 use Rattle.attempts.specs.Releases.{releases}
-use Rattle.attempts.specs.Phases.{Slot, IsIn, Past, MayAsk, grants, after_asking, after, Keeps}
+use Rattle.attempts.specs.Phases.{Slot, is_slot, has_slot, parity_slot, IsIn, Past, MayAsk, grants, after_asking, after, Keeps}
 use Rattle.attempts.proofs.RoomLemmas.{all-append}
 
 -- Lists
@@ -39,6 +43,104 @@ weaken-some P Q h (Some x) p = h x p
 pub any : {A : Type 0} (o : Option A) → IfSome o (λ a. Unit {0})
 any (Some a) = tt
 any None = tt
+
+-- Slots
+abbrev pub slot_on : RowNo → BayNo → Slot
+slot_on row bay = record { bay = bay; row = row }
+
+abbrev row_no : ℕ → RowNo
+row_no k = record { 0 = k }
+
+both-hold : (x y : Bool) → x ≡ true → y ≡ true → (x && y) ≡ true
+both-hold true y one two = two
+both-hold false y one two = one
+
+first-holds : (x y : Bool) → (x && y) ≡ true → x ≡ true
+first-holds true y both = refl
+first-holds false y both = both
+
+second-holds : (x y : Bool) → (x && y) ≡ true → y ≡ true
+second-holds true y both = both
+second-holds false true both = refl
+second-holds false false both = both
+
+first-fails : (x y : Bool) → x ≡ false → (x && y) ≡ false
+first-fails true y fails = absurd (cc)
+first-fails false y fails = refl
+
+second-fails : (x y : Bool) → y ≡ false → (x && y) ≡ false
+second-fails true y fails = fails
+second-fails false y fails = refl
+
+slot-itself : (slot : Slot) → is_slot slot slot ≡ true
+slot-itself slot = both-hold (slot.bay.0 == slot.bay.0) (slot.row.0 == slot.row.0) (eq-eqb slot.bay.0 slot.bay.0 refl) (eq-eqb slot.row.0 slot.row.0 refl)
+
+slot-equal : (x y : Slot) → is_slot x y ≡ true → y ≡ x
+slot-equal x y is =
+    let bay_same : y.bay.0 ≡ x.bay.0 = sym (eqb-true x.bay.0 y.bay.0 (first-holds (x.bay.0 == y.bay.0) (x.row.0 == y.row.0) is)) in
+    let row_same : y.row.0 ≡ x.row.0 = sym (eqb-true x.row.0 y.row.0 (second-holds (x.bay.0 == y.bay.0) (x.row.0 == y.row.0) is)) in
+    ap (λ (k : ℕ). slot_on y.row (bay k)) bay_same ∙ ap (λ (k : ℕ). slot_on (row_no k) x.bay) row_same
+
+pub row-apart : (x y : Slot) → (x.row ≡ y.row → ⊥) → is_slot x y ≡ false
+row-apart x y apart = second-fails (x.bay.0 == y.bay.0) (x.row.0 == y.row.0) (ne_eqb x.row.0 y.row.0 (λ same. apart (ap row_no same)))
+
+pub bay-apart : (x y : Slot) → (x.bay ≡ y.bay → ⊥) → is_slot x y ≡ false
+bay-apart x y apart = first-fails (x.bay.0 == y.bay.0) (x.row.0 == y.row.0) (ne_eqb x.bay.0 y.bay.0 (λ same. apart (ap bay same)))
+
+either-first : (x y : Bool) → x ≡ true → (x || y) ≡ true
+either-first true y is = refl
+either-first false y is = absurd (cc)
+
+either-second : (x y : Bool) → y ≡ true → (x || y) ≡ true
+either-second true y is = refl
+either-second false y is = is
+
+either-of : (x y : Bool) → (x || y) ≡ true → (x ≡ true) ⊎ (y ≡ true)
+either-of true y is = inl refl
+either-of false y is = inr is
+
+-- a slot is found where it is
+pub in-has : (slot : Slot) (slots : List Slot) → IsIn slot slots → has_slot slot slots ≡ true
+in-has slot [] i = absurd i
+in-has slot (other ∷ slots) (inl same) = either-first (is_slot slot other) (has_slot slot slots) (subst (λ (x : Slot). is_slot slot x ≡ true) (sym same) (slot-itself slot))
+in-has slot (other ∷ slots) (inr i) = either-second (is_slot slot other) (has_slot slot slots) (in-has slot slots i)
+
+pub has-in : (slot : Slot) (slots : List Slot) → has_slot slot slots ≡ true → IsIn slot slots
+has-in slot [] has = absurd (cc)
+has-in slot (other ∷ slots) has = elim (either-of (is_slot slot other) (has_slot slot slots) has) [
+  | inl same ↦ inl (slot-equal slot other same)
+  | inr further ↦ inr (has-in slot slots further)
+]
+
+-- another slot in front changes nothing
+pub has-behind : (slot other : Slot) (slots : List Slot) (b : Bool) → is_slot slot other ≡ false → has_slot slot slots ≡ b → has_slot slot (other ∷ slots) ≡ b
+has-behind slot other slots b apart has = ap (λ (c : Bool). c || has_slot slot slots) apart ∙ has
+
+pub has-grants : (slot : Slot) (o : Option Grant) (other : Slot) (slots : List Slot) (b : Bool) → is_slot slot other ≡ false → has_slot slot slots ≡ b
+    → has_slot slot (grants o other slots) ≡ b
+has-grants slot None other slots b apart has = has
+has-grants slot (Some grant) other slots b apart has = has-behind slot other slots b apart has
+
+pub has-none : (slot : Slot) (slots : List Slot) → AllByRecursion (λ (other : Slot). is_slot slot other ≡ false) slots → has_slot slot slots ≡ false
+has-none slot [] all = refl
+has-none slot (other ∷ slots) all = has-behind slot other slots false all.0 (has-none slot slots all.1)
+
+-- the slots of a row's units are not its parity's
+abbrev pub Aside : ℕ → RowNo → ℕ → Type 0
+Aside n row u = bay_of n row u ≡ parity_bay n row → ⊥
+
+pub range-aside : (n : ℕ) (row : RowNo) (first count : ℕ) → first + count ≤ n - 1 → AllByRecursion (Aside n row) (range_with_len first count)
+range-aside n row first zero le = tt
+range-aside n row first (suc count) le = (
+  λ same. wrap_apart n (parity_at n row) first (omega (arith, mod_below row.0 n (omega arith))) (omega arith) (ap (λ (bay : BayNo). bay.0) same),
+  range-aside n row (first + 1) count (omega arith),
+)
+
+pub units-aside : (n : ℕ) (row : RowNo) → AllByRecursion (Aside n row) (units n)
+units-aside n row = range-aside n row 0 (n - 1) (omega arith)
+
+pub aside-slot : (n : ℕ) (row : RowNo) (u : ℕ) → Aside n row u → is_slot (parity_slot n row) (slot_on row (bay_of n row u)) ≡ false
+aside-slot n row u aside = bay-apart (parity_slot n row) (slot_on row (bay_of n row u)) (λ same. aside (sym same))
 
 -- Releases
 abbrev pub IsRelease : Number → Request → Type 0

@@ -42,8 +42,8 @@ module _ (a : Access) where
   numbered-keeps Order rows = record { claimed = refl; put = refl }
   numbered-keeps Lock rows = (refl, omega arith, after_draw) where
     after_draw : (d : Result Number Spent) → Keeps a.n a.id HasOnlyRead (after_number (begins None) d) (read_drawn a rows d)
-    after_draw (Ok n) = drawn-keeps rows (Ok n) (record (begins None) { number = Some n }) refl refl
-    after_draw (Err spent) = drawn-keeps rows (Err spent) (begins None) refl refl
+    after_draw (Ok n) = drawn-keeps rows (Ok n) (record (begins None) { number = Some n; phase = 2 }) refl refl
+    after_draw (Err spent) = drawn-keeps rows (Err spent) (record (begins None) { phase = 3 }) refl refl
 
   abbrev start : Past
   start = begins (number_of a.mode a.id)

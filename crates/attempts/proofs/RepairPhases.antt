@@ -1,5 +1,5 @@
 -- Rebuilds and recoveries keep the order.
-use Rattle.std.proofs.Common.{◌≡◌, ◌⊎◌, inl, inr, refl, sym, ap, subst, ◌∙◌, ℕ, zero, suc, ◌+◌, ◌-◌, ◌<◌, ◌≤◌, ◌==◌, ◌||◌, Bool, true, false, cond, List, [], ◌∷◌, ◌++◌, Option, Some, None, IfSome, option_map, map, zip, length, Result, Ok, Err, arith}
+use Rattle.std.proofs.Common.{◌≡◌, ◌⊎◌, inl, inr, refl, sym, ap, subst, ◌∙◌, ℕ, zero, suc, ◌+◌, ◌-◌, ◌<◌, ◌≤◌, ◌==◌, Bool, true, false, cond, List, [], ◌∷◌, ◌++◌, Option, Some, None, IfSome, is_some, option_map, map, zip, length, Result, Ok, Err, arith}
 use Rattle.std.specs.List.{AllByRecursion, range_with_len}
 use Rattle.std.proofs.lemmas.Bool.{cases_eq}
 use Rattle.raid_base.specs.declared.numbers.BayNo.{BayNo}
@@ -25,13 +25,9 @@ use Rattle.attempts.specs.Taking.{Finish, Row, Taken, no_rows, begun, refusal, w
 use Rattle.attempts.specs.Releases.{releases, releasing, end_as, released_steps, refused_steps, parity_granted}
 use Rattle.attempts.specs.Puts.{put}
 use Rattle.attempts.specs.Mending.{is_bare, with_hold, good_grant, mending, mend_why, mend_releases, without_target, is_shown, mended_cell, mend_putting, put_cause, mend_put, mend_numbered, mend_drawn, mend_confirmed, mend_confirming, mend_claimed}
-use Rattle.attempts.specs.Recovery.{whole_part, unseized_data, unseized_parity, granted_data, give_back, recover_refused, missing_in, is_torn, Verdict, Leaves, Sums, hole_verdict, verdict_of, verdict, recovered_parity, recover_putting, closing, recover_put, recover_by, recover_drawn, recover_confirmed, is_as_before, stays_unless, recover_confirming, units_seized, seize_units, parity_taken, parity_seized}
-use Rattle.attempts.specs.Phases.{Slot, parity_slot, IsIn, Past, begins, MayPut, grants, after, after_number, Keeps, RepairEnds, HasRepaired, MendsKeepPhases, RecoveriesKeepPhases}
-use Rattle.attempts.proofs.PhaseLemmas.{all-weaken, weaken-some, are-releases, keeps-walk, keeps-units, keeps-one, gives-back}
-
--- a slot of a row
-abbrev pub slot_on : RowNo → BayNo → Slot
-slot_on row bay = record { bay = bay; row = row }
+use Rattle.attempts.specs.Recovery.{whole_part, unseized_data, unseized_parity, granted_data, give_back, recover_refused, missing_in, is_torn, Verdict, Leaves, Sums, hole_verdict, verdict_of, verdict, recovered_parity, recover_putting, closing, recover_put, recover_by, recover_drawn, recover_confirmed, is_as_before, stays_unless, stays, recover_confirming, units_seized, seize_units, parity_taken, parity_seized}
+use Rattle.attempts.specs.Phases.{Slot, has_slot, parity_slot, IsIn, Past, begins, MayPut, is_due, grants, after, after_number, Keeps, RepairEnds, HasRepaired, MendsKeepPhases, RecoveriesKeepPhases}
+use Rattle.attempts.proofs.PhaseLemmas.{slot_on, in-has, has-in, has-behind, Aside, units-aside, aside-slot, all-weaken, are-releases, keeps-walk, keeps-units, keeps-one, gives-back}
 
 -- the list begins with this bay
 abbrev BeginsWith : BayNo → List BayNo → Type 0
@@ -103,12 +99,12 @@ module _ (m : Repair) (least : 3 ≤ m.n) (within : m.target.0 < m.n) where
   mended-keeps p light holds = released-keeps m.n m.id m.row _ ends.Mended p light (λ k. tt)
 
   numbered-keeps : (p : Past) (n : Number) (holds : List Hold) → Confirmed m.row p → IsIn (slot_on m.row m.target) p.granted → (b : Bool)
-      → Mends (record p { number = Some n }) (mend_numbered m holds n b)
-  numbered-keeps p n holds c granted true = mended-keeps (record p { number = Some n }) (few p c.put) holds
+      → Mends (record p { number = Some n; phase = 2 }) (mend_numbered m holds n b)
+  numbered-keeps p n holds c granted true = mended-keeps (record p { number = Some n; phase = 2 }) (few p c.put) holds
   numbered-keeps p n holds c granted false =
-      keeps-one m.n m.id HasRepaired mend_putting (mend_put m holds) (put m.id m.row n (mended_cell m holds) m.target) (record p { number = Some n }) tt (
+      keeps-one m.n m.id HasRepaired mend_putting (mend_put m holds) (put m.id m.row n (mended_cell m holds) m.target) (record p { number = Some n; phase = 2 }) tt (
         refl,
-        omega (arith, c.phase),
+        omega arith,
         refl,
         record {
           granted = granted;
@@ -128,25 +124,30 @@ module _ (m : Repair) (least : 3 ≤ m.n) (within : m.target.0 < m.n) where
 
   drawn-keeps : (p : Past) (holds : List Hold) → Confirmed m.row p → IsIn (slot_on m.row m.target) p.granted → (d : Result Number Spent)
       → Mends (after_number p d) (mend_drawn m holds d)
-  drawn-keeps p holds c granted (Err spent) = mend-refuses p (few p c.put) holds (causes.Spent spent.seen)
+  drawn-keeps p holds c granted (Err spent) = mend-refuses (record p { phase = 3 }) (few p c.put) holds (causes.Spent spent.seen)
   drawn-keeps p holds c granted (Ok n) = numbered-keeps p n holds c granted (is_shown m.target holds)
 
-  claimed-keeps : (p : Past) (holds : List Hold) → Claims m.row p → IsIn (slot_on m.row m.target) p.granted → Mends p (mend_claimed m (Through holds))
-  claimed-keeps p holds c granted =
+  claimed-keeps : (p : Past) (holds : List Hold) → Claims m.row p → IsIn (slot_on m.row m.target) p.granted → IsIn (parity_slot m.n m.row) p.granted
+      → Mends p (mend_claimed m (Through holds))
+  claimed-keeps p holds c granted parity =
       keeps-one m.n m.id HasRepaired mend_confirming (mend_confirmed m holds) (confirm m.id m.row false (parity_bay m.n m.row)) p tt
       (refl, omega (arith, c.phase), refl)
-      (λ r. given (is_held r) (is_missing r))
+      (λ r. subst (λ (b : Bool). Passed (is_held r) (is_due b r)) (sym (in-has (parity_slot m.n m.row) p.granted parity)) (given (is_held r)))
       (λ r. mend-refuses (after p (confirm m.id m.row false (parity_bay m.n m.row)) r) (few p c.put) holds
       (mend_why (confirm m.id m.row false (parity_bay m.n m.row)) r (causes.Changed m.row))) where
-        given : (h g : Bool) → IfSome (cond h (Some tt) None)
-            (λ (u : Unit {0}). Mends (record p { phase = 1; confirmed = cond (h || g) (m.row ∷ p.confirmed) p.confirmed }) (mend_confirmed m holds (Through u)))
-        given true g = (c.number, omega arith, λ d. drawn-keeps (record p { phase = 1; confirmed = m.row ∷ p.confirmed }) holds (confirms m.row p c) granted d)
-        given false g = tt
+        Passed : Bool → Bool → Type 0
+        Passed held due =
+            IfSome (cond held (Some tt) None) (λ (u : Unit {0}). Mends (record p { phase = 1; confirmed = cond due (m.row ∷ p.confirmed) p.confirmed }) (mend_confirmed m holds (Through u)))
 
-  -- the claims: the parity comes first, and the target is granted or still to be claimed
+        given : (h : Bool) → Passed h h
+        given true = (c.number, omega arith, λ d. drawn-keeps (record p { phase = 1; confirmed = m.row ∷ p.confirmed }) holds (confirms m.row p c) granted d)
+        given false = tt
+
+  -- the claims: the parity comes first and is granted, and the target is granted or still to be claimed
   record Mending (bays : List BayNo) (p : Past) (holds : List Hold) : Type 0 where
     claims : Claims m.row p
     first : IsIn (parity_slot m.n m.row) p.claimed ⊎ BeginsWith (parity_bay m.n m.row) bays
+    parity : IsIn (parity_slot m.n m.row) p.granted ⊎ BeginsWith (parity_bay m.n m.row) bays
     target : IsIn (slot_on m.row m.target) p.granted ⊎ IsIn m.target bays
 
   claim-may : (bay : BayNo) (bays : List BayNo) (p : Past) (holds : List Hold) → Mending (bay ∷ bays) p holds
@@ -161,9 +162,9 @@ module _ (m : Repair) (least : 3 ≤ m.n) (within : m.target.0 < m.n) where
       (Mending bays (record p { claimed = slot_on m.row bay ∷ p.claimed; granted = grants o (slot_on m.row bay) p.granted }))
   claim-kept bay bays p holds j None = tt
   claim-kept bay bays p holds j (Some grant) = one (is_bare m bay grant) where
-    first : IsIn (parity_slot m.n m.row) p.claimed ⊎ (bay ≡ parity_bay m.n m.row) → IsIn (parity_slot m.n m.row) (slot_on m.row bay ∷ p.claimed)
-    first (inl i) = inr i
-    first (inr same) = inl (ap (slot_on m.row) same)
+    first : (slots : List Slot) → IsIn (parity_slot m.n m.row) slots ⊎ (bay ≡ parity_bay m.n m.row) → IsIn (parity_slot m.n m.row) (slot_on m.row bay ∷ slots)
+    first slots (inl i) = inr i
+    first slots (inr same) = inl (ap (slot_on m.row) same)
 
     target : IsIn (slot_on m.row m.target) p.granted ⊎ IsIn m.target (bay ∷ bays) → IsIn (slot_on m.row m.target) (slot_on m.row bay ∷ p.granted) ⊎ IsIn m.target bays
     target (inl i) = inl (inr i)
@@ -173,7 +174,7 @@ module _ (m : Repair) (least : 3 ≤ m.n) (within : m.target.0 < m.n) where
     one : (b : Bool) → IfSome (option_map (λ (hold : Hold). holds ++ hold ∷ []) (cond b None (Some (record { bay = bay; grant = grant }))))
         (Mending bays (record p { claimed = slot_on m.row bay ∷ p.claimed; granted = slot_on m.row bay ∷ p.granted }))
     one true = tt
-    one false = record { claims = claims-more m.row p bay (slot_on m.row bay ∷ p.granted) j.claims; first = inl (first j.first); target = target j.target }
+    one false = record { claims = claims-more m.row p bay (slot_on m.row bay ∷ p.granted) j.claims; first = inl (first p.claimed j.first); parity = inl (first p.granted j.parity); target = target j.target }
 
   unit-in : (unit : ℕ) → bay_of m.n m.row unit ≡ m.target → (first count : ℕ) → first ≤ unit → unit < first + count
       → IsIn m.target (map (bay_of m.n m.row) (range_with_len first count))
@@ -194,15 +195,20 @@ module _ (m : Repair) (least : 3 ≤ m.n) (within : m.target.0 < m.n) where
       keeps-walk m.n m.id HasRepaired (claim m.id m.row Mend 0 true) Mending (mending m) (mend_claimed m)
       claim-may
       (λ bay bays p holds r j. claim-kept bay bays p holds j (grant_of r))
-      (λ p holds j. claimed-keeps p holds j.claims (target-granted p j.target))
+      (λ p holds j. claimed-keeps p holds j.claims (target-granted p j.target) (parity-granted p j.parity))
       (λ bay bays p holds r j. mend-refuses (after p (claim m.id m.row Mend 0 true bay) r) (few p j.claims.put) (with_hold holds bay (grant_of r))
       (mend_why (claim m.id m.row Mend 0 true bay) r (causes.Gone bay)))
       (parity_first m.n m.row) (begins None) []
       (record {
         claims = record { phase = omega arith; number = refl; put = refl; rows = tt };
         first = inr refl;
+        parity = inr refl;
         target = inr target-in;
       }) where
+        parity-granted : (p : Past) → IsIn (parity_slot m.n m.row) p.granted ⊎ BeginsWith (parity_bay m.n m.row) [] → IsIn (parity_slot m.n m.row) p.granted
+        parity-granted p (inl i) = i
+        parity-granted p (inr b) = absurd b
+
         target-granted : (p : Past) → IsIn (slot_on m.row m.target) p.granted ⊎ IsIn m.target [] → IsIn (slot_on m.row m.target) p.granted
         target-granted p (inl i) = i
         target-granted p (inr i) = absurd i
@@ -228,13 +234,13 @@ module _ (r : Rescue) where
       gives-back r.n r.id HasRepaired (closing n lost) (end_as (ends.Recovered n true lost)) (give_back r (granted_data r row)) p tt (are-releases r.id r.row None (granted_data r row))
       (λ m walk. record { ended = numbered; put = light })
 
-  by-keeps : (p : Past) (row : Row) (n : Number) → Confirmed r.row p → (v : Verdict) → (SumsIf v (IsIn parity p.granted)) → Recovers (record p { number = Some n }) (recover_by r row n v)
+  by-keeps : (p : Past) (row : Row) (n : Number) → Confirmed r.row p → (v : Verdict) → (SumsIf v (IsIn parity p.granted)) → Recovers (record p { number = Some n; phase = 2 }) (recover_by r row n v)
   by-keeps p row n c Leaves granted =
-      released-keeps r.n r.id r.row (granted_data r row ++ parity_granted r.n r.row row.parity) (ends.Recovered n true None) (record p { number = Some n }) (few p c.put) (λ k. refl)
+      released-keeps r.n r.id r.row (granted_data r row ++ parity_granted r.n r.row row.parity) (ends.Recovered n true None) (record p { number = Some n; phase = 2 }) (few p c.put) (λ k. refl)
   by-keeps p row n c (Sums lost) granted =
-      keeps-one r.n r.id HasRepaired (recover_putting r lost) (recover_put r row n lost) (put r.id r.row n (recovered_parity row lost) (parity_bay r.n r.row)) (record p { number = Some n }) tt (
+      keeps-one r.n r.id HasRepaired (recover_putting r lost) (recover_put r row n lost) (put r.id r.row n (recovered_parity row lost) (parity_bay r.n r.row)) (record p { number = Some n; phase = 2 }) tt (
         refl,
-        omega (arith, c.phase),
+        omega arith,
         refl,
         record {
           granted = granted;
@@ -261,43 +267,46 @@ module _ (r : Rescue) where
       one true = granted
       one false = tt
 
-  -- what is known while the units are claimed
+  -- what is known while the units are claimed: the parity was granted where the row has its grant
   record Seizing (us : List ℕ) (p : Past) (taken : Taken) : Type 0 where
     claims : Claims r.row p
     first : IsIn parity p.claimed
-    granted : IfSome taken.row.parity (λ (grant : Grant). IsIn parity p.granted)
+    granted : has_slot parity p.granted ≡ is_some taken.row.parity
+    aside : AllByRecursion (Aside r.n r.row) us
+
+  grant-in : (p : Past) (o : Option Grant) → has_slot parity p.granted ≡ is_some o → IfSome o (λ (grant : Grant). IsIn parity p.granted)
+  grant-in p None has = tt
+  grant-in p (Some grant) has = has-in parity p.granted has
 
   drawn-keeps-on : (p : Past) (row : Row) → Confirmed r.row p → IfSome row.parity (λ (grant : Grant). IsIn parity p.granted) → (d : Result Number Spent)
       → Recovers (after_number p d) (recover_drawn r row d)
-  drawn-keeps-on p row c granted (Err spent) = recover-refuses p (few p c.put) row (causes.Spent spent.seen)
+  drawn-keeps-on p row c granted (Err spent) = recover-refuses (record p { phase = 3 }) (few p c.put) row (causes.Spent spent.seen)
   drawn-keeps-on p row c granted (Ok n) = by-keeps p row n c (verdict r row) (verdict-sums p row row.parity granted)
 
   confirm-keeps : (p : Past) (taken : Taken) → Seizing [] p taken → Recovers p (units_seized r (Through taken))
   confirm-keeps p taken j =
       keeps-one r.n r.id HasRepaired (recover_confirming taken) (recover_confirmed r taken) (confirm r.id r.row false (parity_bay r.n r.row)) p tt
       (refl, omega (arith, j.claims.phase), refl)
-      (λ reply. unrefused reply (refusal None taken.missing (parity_bay r.n r.row) reply))
+      (λ reply. subst (λ (b : Bool). Passed reply (is_due b reply)) (sym j.granted) (unrefused reply (refusal None taken.missing (parity_bay r.n r.row) reply)))
       (λ reply. recover-refuses (after p (confirm r.id r.row false (parity_bay r.n r.row)) reply) (few p j.claims.put) taken.row _) where
         Goes : Bool → Unit {0} → Type 0
-        Goes b u = Recovers (record p { phase = 1; confirmed = cond b (r.row ∷ p.confirmed) p.confirmed }) (recover_confirmed r taken (Through u))
+        Goes due u = Recovers (record p { phase = 1; confirmed = cond due (r.row ∷ p.confirmed) p.confirmed }) (recover_confirmed r taken (Through u))
+
+        Passed : Reply → Bool → Type 0
+        Passed reply due = IfSome (cond (stays taken (parity_bay r.n r.row) reply) (Some tt) None) (Goes due)
 
         goes : Goes true tt
-        goes = (j.claims.number, omega arith, λ d. drawn-keeps-on (record p { phase = 1; confirmed = r.row ∷ p.confirmed }) taken.row (confirms r.row p j.claims) j.granted d)
+        goes = (j.claims.number, omega arith, λ d. drawn-keeps-on (record p { phase = 1; confirmed = r.row ∷ p.confirmed }) taken.row (confirms r.row p j.claims) (grant-in p taken.row.parity j.granted) d)
 
-        missing : (h g : Bool) → IfSome (cond g (Some tt) None) (Goes (h || g))
-        missing true true = goes
-        missing false true = goes
-        missing h false = tt
+        due-goes : (due : Bool) → IfSome (cond due (Some tt) None) (Goes due)
+        due-goes true = goes
+        due-goes false = tt
 
-        held : (h g : Bool) → IfSome (cond h (Some tt) None) (Goes (h || g))
-        held true g = goes
-        held false g = tt
+        as_before : (reply : Reply) (o : Option Grant) → IfSome (cond (is_as_before o reply) (Some tt) None) (Goes (is_due (is_some o) reply))
+        as_before reply None = due-goes (is_missing reply)
+        as_before reply (Some grant) = due-goes (is_held reply)
 
-        as_before : (reply : Reply) (o : Option Grant) → IfSome (cond (is_as_before o reply) (Some tt) None) (Goes (is_held reply || is_missing reply))
-        as_before reply None = missing (is_held reply) (is_missing reply)
-        as_before reply (Some grant) = held (is_held reply) (is_missing reply)
-
-        unrefused : (reply : Reply) (o : Option Cause) → IfSome (cond (stays_unless o (is_as_before taken.row.parity reply)) (Some tt) None) (Goes (is_held reply || is_missing reply))
+        unrefused : (reply : Reply) (o : Option Cause) → IfSome (cond (stays_unless o (is_as_before taken.row.parity reply)) (Some tt) None) (Goes (is_due (is_some taken.row.parity) reply))
         unrefused reply (Some cause) = tt
         unrefused reply None = as_before reply taken.row.parity
 
@@ -309,11 +318,13 @@ module _ (r : Rescue) where
     claims = claims-more r.row p (bay_of r.n r.row u) p.granted j.claims;
     first = inr j.first;
     granted = j.granted;
+    aside = j.aside.1;
   }
   unit-kept u us p taken j None (Some grant) = record {
     claims = claims-more r.row p (bay_of r.n r.row u) (slot_on r.row (bay_of r.n r.row u) ∷ p.granted) j.claims;
     first = inr j.first;
-    granted = weaken-some (λ (g : Grant). IsIn parity p.granted) (λ (g : Grant). IsIn parity (slot_on r.row (bay_of r.n r.row u) ∷ p.granted)) (λ g i. inr i) taken.row.parity j.granted;
+    granted = has-behind parity (slot_on r.row (bay_of r.n r.row u)) p.granted (is_some taken.row.parity) (aside-slot r.n r.row u j.aside.0) j.granted;
+    aside = j.aside.1;
   }
 
   seize-keeps : (p : Past) (taken : Taken) → Seizing (units r.n) p taken → Recovers p (seize_units r taken)
@@ -351,10 +362,15 @@ module _ (r : Rescue) where
   parity-claimed (Some cause) o = tt
   parity-claimed None None =
       parity-keeps (claimed_parity None) (with_grant with_parity first_taken (parity_bay r.n r.row) None)
-      (record { claims = claims-parity None; first = inl refl; granted = tt }) None
+      (record { claims = claims-parity None; first = inl refl; granted = refl; aside = units-aside r.n r.row }) None
   parity-claimed None (Some grant) =
       parity-keeps (claimed_parity (Some grant)) (with_grant with_parity first_taken (parity_bay r.n r.row) (Some grant))
-      (record { claims = claims-parity (Some grant); first = inl refl; granted = inl refl }) (Some grant)
+      (record {
+        claims = claims-parity (Some grant);
+        first = inl refl;
+        granted = in-has parity (parity ∷ []) (inl refl);
+        aside = units-aside r.n r.row;
+      }) (Some grant)
 
   recovers-keep : Recovers (begins None) (run (taking None with_parity) (first_claim ∷ []) first_taken >>= parity_seized r)
   recovers-keep =

@@ -1,5 +1,5 @@
 -- Writes keep the order.
-use Rattle.std.proofs.Common.{◌≡◌, ◌⊎◌, inl, inr, refl, sym, ap, subst, ◌∙◌, ℕ, zero, suc, ◌+◌, ◌-◌, ◌<◌, ◌≤◌, ◌||◌, Bool, true, false, cond, List, [], ◌∷◌, ◌++◌, Option, Some, None, IfSome, option_map, map, zip, filter, Result, Ok, Err, arith}
+use Rattle.std.proofs.Common.{◌≡◌, ◌⊎◌, inl, inr, refl, sym, ap, subst, ◌∙◌, ℕ, zero, suc, ◌+◌, ◌-◌, ◌<◌, ◌≤◌, Bool, true, false, cond, List, [], ◌∷◌, ◌++◌, Option, Some, None, IfSome, is_some, option_map, map, zip, filter, Result, Ok, Err, arith}
 use Rattle.std.specs.List.{AllByRecursion, range_with_len}
 use Rattle.std.proofs.lemmas.List.{append-nil}
 use Rattle.raid_base.specs.declared.numbers.BayNo.{BayNo}
@@ -24,16 +24,15 @@ use Rattle.raid_base.specs.Cells.{has_unit}
 use Rattle.raid_base.specs.Replies.{grant_of, held_of, is_held, is_missing}
 use Rattle.raid_base.specs.Steps.{Steps, ◌>>=◌, Walk, Through, Stopped, run}
 use Rattle.stripe_layout.specs.Placement.{parity_bay, bay_of, bays_of, units, units_in, units_out}
-use Rattle.stripe_layout.proofs.LayoutLemmas.{unit_apart, unit_distinct}
+use Rattle.stripe_layout.proofs.LayoutLemmas.{unit_distinct}
 use Rattle.attempts.specs.Taking.{Access, Finish, finish, Row, Rows, no_rows, Taken, begun, row_ended, lacks, behind_from, refusal, with_grant, unless, taking_until, why, with_parity, with_wanted, with_other, share, claim}
 use Rattle.attempts.specs.Releases.{releasing, end_as, refused_steps, granted_of, wanted_granted, others_granted, write_holds, write_releases}
 use Rattle.attempts.specs.Puts.{plan_of, Puts, no_puts, at_row, data_put, putting_data, parity_put, putting_parity, with_trouble, trouble_of, first_cause, written_or}
 use Rattle.attempts.specs.Writing.{write_stopped, finishing, reader_releases, write_end, write_last, parity_done, put_parity, data_done, put_rows, put_steps, write_drawn, write_numbered, held_row, confirmed_row, unrefused_row, confirming, row_confirm, confirm_cause, row_confirmed, confirm_rows, claiming, row_claimed, wanted_claims, claim_wanted, share_others, small_claimed, share_stopped, others_shared, claim_row, parity_claimed, parity_claim, claim_rows}
-use Rattle.attempts.specs.Phases.{Slot, parity_slot, IsIn, Past, begins, number_of, MayPut, grants, after, after_number, Keeps, HasWritten, HasRow, RowsDiffer, WritesKeepPhases}
+use Rattle.attempts.specs.Phases.{Slot, is_slot, has_slot, parity_slot, IsIn, Past, begins, number_of, MayPut, is_due, grants, after, after_number, Keeps, HasWritten, HasRow, RowsDiffer, WritesKeepPhases}
 use Rattle.attempts.proofs.RoomLemmas.{all-append, parts_of}
 use Rattle.attempts.proofs.TakenLemmas.{SoFar, so_far-more, IsTaking, taking-ended, keeps-parity, keeps-wanted, keeps-other, taking-granted, taking-step, until-step}
-use Rattle.attempts.proofs.PhaseLemmas.{all-weaken, in-grants, both-some, weaken-some, IsRelease, row-releases, keeps-walk, keeps-units, keeps-one, gives-back}
-use Rattle.attempts.proofs.RepairPhases.{slot_on}
+use Rattle.attempts.proofs.PhaseLemmas.{slot_on, row-apart, in-has, has-in, has-behind, has-grants, has-none, Aside, units-aside, aside-slot, all-weaken, in-grants, both-some, IsRelease, row-releases, keeps-walk, keeps-units, keeps-one, gives-back}
 
 -- Lists
 -- what is left of the units once so many grants came
@@ -115,6 +114,20 @@ has-row [] x i = i
 has-row (row ∷ rows) x (inl same) = inl same
 has-row (row ∷ rows) x (inr i) = inr (has-row rows x i)
 
+part-later : (before : List Row) (part : RowPart) (left : List RowPart) → HasRow part.row (parts_of before ++ part ∷ left)
+part-later [] part left = inl refl
+part-later (row ∷ before) part left = inr (part-later before part left)
+
+differ-before : (before : List Row) (part : RowPart) (left : List RowPart) → RowsDiffer (parts_of before ++ part ∷ left) → AllByRecursion (λ (row : Row). row.part.row ≡ part.row → ⊥) before
+differ-before [] part left differ = tt
+differ-before (row ∷ before) part left differ =
+    (λ same. differ.0 (subst (λ (x : RowNo). HasRow x (parts_of before ++ part ∷ left)) (sym same) (part-later before part left)), differ-before before part left differ.1)
+
+not-among : (rows : List Row) (x : RowNo) → AllByRecursion (λ (row : Row). row.part.row ≡ x → ⊥) rows → IsIn x (rows_in rows) → ⊥
+not-among [] x apart i = i
+not-among (row ∷ rows) x apart (inl same) = apart.0 same
+not-among (row ∷ rows) x apart (inr i) = not-among rows x apart.1 i
+
 module _ (a : Access) (least : 3 ≤ a.n) where
   abbrev Writes : Past → Steps Finish → Type 0
   Writes p s = Keeps a.n a.id HasWritten p s
@@ -122,20 +135,27 @@ module _ (a : Access) (least : 3 ≤ a.n) where
   abbrev unit_slot : RowNo → ℕ → Slot
   unit_slot row u = slot_on row (bay_of a.n row u)
 
-  -- what was granted of a row
+  -- what was granted of a row: the units of its grants, and the parity where it has its grant
   record Covered (slots : List Slot) (row : Row) : Type 0 where
     wanted : AllByRecursion (λ u. IsIn (unit_slot row.part.row u) slots) (wanted_granted a.n row)
-    parity : IfSome row.parity (λ (grant : Grant). IsIn (parity_slot a.n row.part.row) slots)
+    parity : has_slot (parity_slot a.n row.part.row) slots ≡ is_some row.parity
 
-  covered-more : (o : Option Grant) (slot : Slot) (slots : List Slot) (row : Row) → Covered slots row → Covered (grants o slot slots) row
-  covered-more o slot slots row c = record {
+  parity-in : (row : RowNo) (slots : List Slot) (o : Option Grant) → has_slot (parity_slot a.n row) slots ≡ is_some o → IfSome o (λ (grant : Grant). IsIn (parity_slot a.n row) slots)
+  parity-in row slots None has = tt
+  parity-in row slots (Some grant) has = has-in (parity_slot a.n row) slots has
+
+  covered-more : (o : Option Grant) (slot : Slot) (slots : List Slot) (row : Row) → (row.part.row ≡ slot.row → ⊥) → Covered slots row → Covered (grants o slot slots) row
+  covered-more o slot slots row apart c = record {
     wanted =
         all-weaken (λ u. IsIn (unit_slot row.part.row u) slots) (λ u. IsIn (unit_slot row.part.row u) (grants o slot slots)) (λ u i. in-grants (unit_slot row.part.row u) o slot slots i)
         (wanted_granted a.n row) c.wanted;
-    parity =
-        weaken-some (λ (grant : Grant). IsIn (parity_slot a.n row.part.row) slots) (λ (grant : Grant). IsIn (parity_slot a.n row.part.row) (grants o slot slots))
-        (λ grant i. in-grants (parity_slot a.n row.part.row) o slot slots i) row.parity c.parity;
+    parity = has-grants (parity_slot a.n row.part.row) o slot slots (is_some row.parity) (row-apart (parity_slot a.n row.part.row) slot apart) c.parity;
   }
+
+  all-covered : (o : Option Grant) (slot : Slot) (slots : List Slot) (rows : List Row) → AllByRecursion (λ (row : Row). row.part.row ≡ slot.row → ⊥) rows
+      → AllByRecursion (Covered slots) rows → AllByRecursion (Covered (grants o slot slots)) rows
+  all-covered o slot slots [] apart all = tt
+  all-covered o slot slots (row ∷ rows) apart all = (covered-more o slot slots row apart.0 all.0, all-covered o slot slots rows apart.1 all.1)
 
   -- refused, it has put nothing
   refuses : (p : Past) → p.put ≡ [] → (rows : List Row) (cause : Cause) → Writes p (refused_steps (write_releases a rows) cause)
@@ -173,9 +193,6 @@ module _ (a : Access) (least : 3 ≤ a.n) where
   abbrev Differ : RowNo → ℕ → ℕ → Type 0
   Differ row u v = bay_of a.n row u ≡ bay_of a.n row v → ⊥
 
-  abbrev Aside : RowNo → ℕ → Type 0
-  Aside row u = bay_of a.n row u ≡ parity_bay a.n row → ⊥
-
   range-differs : (row : RowNo) (u first count : ℕ) → u < first → first + count ≤ a.n - 1 → AllByRecursion (Differ row u) (range_with_len first count)
   range-differs row u first zero less le = tt
   range-differs row u first (suc count) less le =
@@ -186,10 +203,6 @@ module _ (a : Access) (least : 3 ≤ a.n) where
   range-pairs : (row : RowNo) (first count : ℕ) → first + count ≤ a.n - 1 → Pairs (Differ row) (range_with_len first count)
   range-pairs row first zero le = tt
   range-pairs row first (suc count) le = (range-differs row first (first + 1) count (omega arith) (omega arith), range-pairs row (first + 1) count (omega arith))
-
-  range-aside : (row : RowNo) (first count : ℕ) → first + count ≤ a.n - 1 → AllByRecursion (Aside row) (range_with_len first count)
-  range-aside row first zero le = tt
-  range-aside row first (suc count) le = (λ same. unit_apart a.n row first least (omega arith) same, range-aside row (first + 1) count (omega arith))
 
   -- the slot is none of these, and not the parity's
   record IsFree (row : RowNo) (us : List ℕ) (slot : Slot) : Type 0 where
@@ -212,7 +225,7 @@ module _ (a : Access) (least : 3 ≤ a.n) where
       parity : IfSome row.parity (λ (grant : Grant). IsIn (parity_slot a.n this) p.granted)
       covered : AllByRecursion (Covered p.granted) left
       pairs : Pairs (Differ this) us
-      aside : AllByRecursion (Aside this) us
+      aside : AllByRecursion (Aside a.n this) us
       free : AllByRecursion (IsFree this us) p.put
       put : AllByRecursion (λ (slot : Slot). IsIn slot.row (rows_in left) → ⊥) p.put
       apart : IsIn this (rows_in left) → ⊥
@@ -310,14 +323,14 @@ module _ (a : Access) (least : 3 ≤ a.n) where
         number = j.number;
         claimed = j.claimed;
         granted = j.covered.0.wanted;
-        parity = j.covered.0.parity;
+        parity = parity-in row.part.row p.granted row.parity j.covered.0.parity;
         covered = j.covered.1;
         pairs =
             pairs-granted (Differ row.part.row) (units_in a.n row.part.mask) row.wanted
             (pairs-kept (Differ row.part.row) (has_unit row.part.mask) (units a.n) (range-pairs row.part.row 0 (a.n - 1) (omega arith)));
         aside =
-            all-granted (Aside row.part.row) (units_in a.n row.part.mask) row.wanted
-            (all-kept (Aside row.part.row) (has_unit row.part.mask) (units a.n) (range-aside row.part.row 0 (a.n - 1) (omega arith)));
+            all-granted (Aside a.n row.part.row) (units_in a.n row.part.mask) row.wanted
+            (all-kept (Aside a.n row.part.row) (has_unit row.part.mask) (units a.n) (units-aside a.n row.part.row));
         free =
             all-weaken (λ (slot : Slot). IsIn slot.row (rows_in (row ∷ left)) → ⊥) (IsFree row.part.row us)
             (λ slot out. record {
@@ -335,7 +348,7 @@ module _ (a : Access) (least : 3 ≤ a.n) where
 
   -- The lock point
   record Ready (rows : List Row) (p : Past) : Type 0 where
-    phase : p.phase ≤ 1
+    phase : p.phase ≤ 2
     put : p.put ≡ []
     claimed : AllByRecursion (λ (claim : Slot). IsIn claim.row p.confirmed) p.claimed
     covered : AllByRecursion (Covered p.granted) rows
@@ -344,7 +357,7 @@ module _ (a : Access) (least : 3 ≤ a.n) where
   puts-keep : (n : Number) (rows : List Row) (p : Past) → Ready rows p → p.number ≡ Some n → Writes p (put_steps a n rows)
   puts-keep n rows p j numbered =
       rows-put n (write_last a n rows) (λ p puts numbered. last-keeps p n rows puts numbered) rows p no_puts (record {
-        phase = omega (arith, j.phase);
+        phase = j.phase;
         number = numbered;
         claimed = j.claimed;
         covered = j.covered;
@@ -353,13 +366,13 @@ module _ (a : Access) (least : 3 ≤ a.n) where
       })
 
   drawn-keeps : (rows : List Row) (p : Past) → Ready rows p → (d : Result Number Spent) → Writes (after_number p d) (write_drawn a rows d)
-  drawn-keeps rows p j (Err spent) = refuses p j.put rows (causes.Spent spent.seen)
+  drawn-keeps rows p j (Err spent) = refuses (record p { phase = 3 }) j.put rows (causes.Spent spent.seen)
   drawn-keeps rows p j (Ok n) =
-      puts-keep n rows (record p { number = Some n }) (record { phase = j.phase; put = j.put; claimed = j.claimed; covered = j.covered; differ = j.differ }) refl
+      puts-keep n rows (record p { number = Some n; phase = 2 }) (record { phase = omega arith; put = j.put; claimed = j.claimed; covered = j.covered; differ = j.differ }) refl
 
-  numbered-keeps : (mode : Mode) (rows : List Row) (p : Past) → Ready rows p → p.number ≡ number_of mode a.id → Writes p (write_numbered mode a rows)
-  numbered-keeps Order rows p j numbered = puts-keep a.id rows p j numbered
-  numbered-keeps Lock rows p j numbered = (numbered, j.phase, λ d. drawn-keeps rows p j d)
+  numbered-keeps : (mode : Mode) (rows : List Row) (p : Past) → p.phase ≤ 1 → Ready rows p → p.number ≡ number_of mode a.id → Writes p (write_numbered mode a rows)
+  numbered-keeps Order rows p early j numbered = puts-keep a.id rows p j numbered
+  numbered-keeps Lock rows p early j numbered = (numbered, early, λ d. drawn-keeps rows p j d)
 
   -- Confirms
   record Confirming (done left : List Row) (p : Past) : Type 0 where
@@ -370,24 +383,10 @@ module _ (a : Access) (least : 3 ≤ a.n) where
     covered : AllByRecursion (Covered p.granted) done
     ahead : AllByRecursion (Covered p.granted) left
 
-  -- a reply that shows what is held is Held
-  held-says : (reply : Reply) → IfSome (held_of reply) (λ (cell : Option Cell). is_held reply ≡ true)
-  held-says (Granted cell read_no write_no last life seized) = tt
-  held-says (Busy holder) = tt
-  held-says (Late above) = tt
-  held-says (Young note) = tt
-  held-says (Missing floor) = tt
-  held-says (Held cell) = refl
-  held-says (NoNote life) = tt
-  held-says Done = tt
-  held-says Fault = tt
-  held-says Emptied = tt
-  held-says Fitted = tt
-
   module _ (differ : RowsDiffer a.parts) where
     ready : (rows : List Row) (p : Past) → SoFar a rows [] → Confirming rows [] p → Ready rows p
     ready rows p so_far j = record {
-      phase = j.phase;
+      phase = omega (arith, j.phase);
       put = j.put;
       claimed = all-weaken (λ (claim : Slot). IsIn claim.row p.confirmed ⊎ ⊥) (λ (claim : Slot). IsIn claim.row p.confirmed) (λ claim i. only claim i) p.claimed j.claimed;
       covered = j.covered;
@@ -429,38 +428,55 @@ module _ (a : Access) (least : 3 ≤ a.n) where
           rest_keeps (record p { phase = 1; confirmed = row.part.row ∷ p.confirmed }) (more other) (confirmed-more done.rows left row other p j c)
           (so_far-more a done.rows other row.part (parts_of left) same so_far)
 
-      goes-missing : (h g : Bool) → IfSome (option_map more (cond g (Some row) None)) (Goes (h || g))
-      goes-missing true true = goes row j.ahead.0 refl
-      goes-missing false true = goes row j.ahead.0 refl
-      goes-missing h false = tt
+      goes-missing : (reply : Reply) → IfSome (option_map more (cond (is_missing reply) (Some row) None)) (Goes (is_missing reply))
+      goes-missing reply = one (is_missing reply) where
+        one : (b : Bool) → IfSome (option_map more (cond b (Some row) None)) (Goes b)
+        one true = goes row j.ahead.0 refl
+        one false = tt
 
-      goes-held : (h g : Bool) (grant : Grant) (want : Bool) (o : Option (Option Cell)) → IfSome o (λ (cell : Option Cell). h ≡ true) → IsIn (parity_slot a.n row.part.row) p.granted
-          → IfSome (option_map more (held_row row grant want o)) (Goes (h || g))
-      goes-held h g grant want None says granted = tt
-      goes-held h g grant true (Some None) says granted = tt
-      goes-held h g grant true (Some (Some cell)) says granted =
-          subst (λ (h : Bool). Goes (h || g) (more (record row { parity = Some (record grant { cell = Some cell }) }))) (sym says)
-          (goes (record row { parity = Some (record grant { cell = Some cell }) }) (record { wanted = j.ahead.0.wanted; parity = granted }) refl)
-      goes-held h g grant false (Some cell) says granted = subst (λ (h : Bool). Goes (h || g) (more row)) (sym says) (goes row j.ahead.0 refl)
+      goes-held : (grant : Grant) → has_slot (parity_slot a.n row.part.row) p.granted ≡ true → (want : Bool) (cell : Option Cell)
+          → IfSome (option_map more (held_row row grant want (Some cell))) (Goes true)
+      goes-held grant has true None = tt
+      goes-held grant has true (Some cell) = goes (record row { parity = Some (record grant { cell = Some cell }) }) (record { wanted = j.ahead.0.wanted; parity = has }) refl
+      goes-held grant has false cell = goes row j.ahead.0 refl
 
-      goes-confirmed : (reply : Reply) (o : Option Grant) → IfSome o (λ (grant : Grant). IsIn (parity_slot a.n row.part.row) p.granted)
-          → IfSome (option_map more (confirmed_row row reply o)) (Goes (is_held reply || is_missing reply))
-      goes-confirmed reply None granted = goes-missing (is_held reply) (is_missing reply)
-      goes-confirmed reply (Some grant) granted = goes-held (is_held reply) (is_missing reply) grant (lacks row.others) (held_of reply) (held-says reply) granted
+      -- a reply that shows what is held is Held
+      goes-granted : (grant : Grant) → has_slot (parity_slot a.n row.part.row) p.granted ≡ true → (want : Bool) (reply : Reply)
+          → IfSome (option_map more (held_row row grant want (held_of reply))) (Goes (is_held reply))
+      goes-granted grant has want (Granted cell read_no write_no last life seized) = tt
+      goes-granted grant has want (Busy holder) = tt
+      goes-granted grant has want (Late above) = tt
+      goes-granted grant has want (Young note) = tt
+      goes-granted grant has want (Missing floor) = tt
+      goes-granted grant has want (Held cell) = goes-held grant has want cell
+      goes-granted grant has want (NoNote life) = tt
+      goes-granted grant has want Done = tt
+      goes-granted grant has want Fault = tt
+      goes-granted grant has want Emptied = tt
+      goes-granted grant has want Fitted = tt
 
-      goes-unrefused : (reply : Reply) (o : Option Cause) → IfSome (option_map more (unrefused_row row reply o)) (Goes (is_held reply || is_missing reply))
+      goes-confirmed : (reply : Reply) (o : Option Grant) → has_slot (parity_slot a.n row.part.row) p.granted ≡ is_some o
+          → IfSome (option_map more (confirmed_row row reply o)) (Goes (is_due (is_some o) reply))
+      goes-confirmed reply None has = goes-missing reply
+      goes-confirmed reply (Some grant) has = goes-granted grant has (lacks row.others) reply
+
+      goes-unrefused : (reply : Reply) (o : Option Cause) → IfSome (option_map more (unrefused_row row reply o)) (Goes (is_due (is_some row.parity) reply))
       goes-unrefused reply (Some cause) = tt
       goes-unrefused reply None = goes-confirmed reply row.parity j.ahead.0.parity
+
+      goes-due : (reply : Reply) (o : Option Cause) → IfSome (option_map more (unrefused_row row reply o)) (Goes (is_due (has_slot (parity_slot a.n row.part.row) p.granted) reply))
+      goes-due reply o =
+          subst (λ (b : Bool). IfSome (option_map more (unrefused_row row reply o)) (Goes (is_due b reply))) (sym j.ahead.0.parity) (goes-unrefused reply o)
 
       confirm-one : Writes p (run (confirming a row) (row_confirm a row ∷ []) done >>= row_confirmed a taken row rest)
       confirm-one =
           keeps-one a.n a.id HasWritten (confirming a row) (row_confirmed a taken row rest) (row_confirm a row) p done
           (refl, j.phase, refl)
-          (λ reply. goes-unrefused reply (refusal (behind_from a.mode a.id) done.missing (parity_bay a.n row.part.row) reply))
+          (λ reply. goes-due reply (refusal (behind_from a.mode a.id) done.missing (parity_bay a.n row.part.row) reply))
           (λ reply. refuses (after p (row_confirm a row) reply) j.put taken (confirm_cause a row done (row_confirm a row) reply))
 
     confirms-keep : (taken left : List Row) (p : Past) (done : Rows) → Confirming done.rows left p → SoFar a done.rows (parts_of left) → Writes p (confirm_rows a taken left done)
-    confirms-keep taken [] p done j so_far = numbered-keeps a.mode done.rows p (ready done.rows p so_far j) j.number
+    confirms-keep taken [] p done j so_far = numbered-keeps a.mode done.rows p j.phase (ready done.rows p so_far j) j.number
     confirms-keep taken (row ∷ left) p done j so_far =
         confirm-one taken row left p done j so_far (confirm_rows a taken left) (λ p done j so_far. confirms-keep taken left p done j so_far)
 
@@ -470,6 +486,7 @@ module _ (a : Access) (least : 3 ≤ a.n) where
       number : p.number ≡ number_of a.mode a.id
       put : p.put ≡ []
       claimed : AllByRecursion (λ (claim : Slot). IsIn claim.row (rows_in rows)) p.claimed
+      granted : AllByRecursion (λ (slot : Slot). IsIn slot.row (rows_in rows)) p.granted
       covered : AllByRecursion (Covered p.granted) rows
 
     -- and a row in hand, of which these units are still to be claimed
@@ -479,11 +496,14 @@ module _ (a : Access) (least : 3 ≤ a.n) where
       number : p.number ≡ number_of a.mode a.id
       put : p.put ≡ []
       claimed : AllByRecursion (λ (claim : Slot). (q.row ≡ claim.row) ⊎ IsIn claim.row (rows_in taken.before)) p.claimed
+      granted : AllByRecursion (λ (slot : Slot). (q.row ≡ slot.row) ⊎ IsIn slot.row (rows_in taken.before)) p.granted
       first : IsIn (parity_slot a.n q.row) p.claimed
+      apart : AllByRecursion (λ (row : Row). row.part.row ≡ q.row → ⊥) taken.before
       before : AllByRecursion (Covered p.granted) taken.before
       wanted : AllByRecursion (λ u. IsIn (unit_slot q.row u) p.granted) (granted_of (zip (units_in a.n q.mask) taken.row.wanted))
-      parity : IfSome taken.row.parity (λ (grant : Grant). IsIn (parity_slot a.n q.row) p.granted)
+      parity : has_slot (parity_slot a.n q.row) p.granted ≡ is_some taken.row.parity
       left : rest_of (units_in a.n q.mask) taken.row.wanted ≡ us
+      aside : AllByRecursion (Aside a.n q.row) us
 
     in-part : (q : RowPart) (us : List ℕ) (p : Past) (taken : Taken) → InHand q us p taken → InHand taken.row.part us p taken
     in-part q us p taken j = subst (λ (q : RowPart). InHand q us p taken) (sym j.same) j
@@ -494,11 +514,15 @@ module _ (a : Access) (least : 3 ≤ a.n) where
       phase = j.phase;
       number = j.number;
       put = j.put;
-      claimed =
-          all-weaken (λ (claim : Slot). (taken.row.part.row ≡ claim.row) ⊎ IsIn claim.row (rows_in taken.before)) (λ (claim : Slot). IsIn claim.row (rows_in (taken.before ++ taken.row ∷ [])))
-          (λ claim i. in-rows taken.before taken.row claim.row i) p.claimed j.claimed;
+      claimed = taken-rows p.claimed j.claimed;
+      granted = taken-rows p.granted j.granted;
       covered = all-append (Covered p.granted) taken.before (taken.row ∷ []) j.before (record { wanted = j.wanted; parity = j.parity }, tt);
-    }
+    } where
+      taken-rows : (slots : List Slot) → AllByRecursion (λ (slot : Slot). (taken.row.part.row ≡ slot.row) ⊎ IsIn slot.row (rows_in taken.before)) slots
+          → AllByRecursion (λ (slot : Slot). IsIn slot.row (rows_in (taken.before ++ taken.row ∷ []))) slots
+      taken-rows slots all =
+          all-weaken (λ (slot : Slot). (taken.row.part.row ≡ slot.row) ⊎ IsIn slot.row (rows_in taken.before)) (λ (slot : Slot). IsIn slot.row (rows_in (taken.before ++ taken.row ∷ [])))
+          (λ slot i. in-rows taken.before taken.row slot.row i) slots all
 
     -- a share changes nothing of that
     other-kept : (q : RowPart) (us : List ℕ) (p : Past) (taken : Taken) (bay : BayNo) (o : Option Grant) → InHand q us p taken → InHand q us p (with_grant with_other taken bay o)
@@ -508,11 +532,14 @@ module _ (a : Access) (least : 3 ≤ a.n) where
       number = j.number;
       put = j.put;
       claimed = j.claimed;
+      granted = j.granted;
       first = j.first;
+      apart = j.apart;
       before = j.before;
       wanted = j.wanted;
       parity = j.parity;
       left = j.left;
+      aside = j.aside;
     }
     other-kept q us p taken bay None j = record {
       same = j.same;
@@ -520,11 +547,14 @@ module _ (a : Access) (least : 3 ≤ a.n) where
       number = j.number;
       put = j.put;
       claimed = j.claimed;
+      granted = j.granted;
       first = j.first;
+      apart = j.apart;
       before = j.before;
       wanted = j.wanted;
       parity = j.parity;
       left = j.left;
+      aside = j.aside;
     }
 
     -- a claim of the next unit
@@ -538,11 +568,14 @@ module _ (a : Access) (least : 3 ≤ a.n) where
       number = j.number;
       put = j.put;
       claimed = (inl refl, j.claimed);
+      granted = j.granted;
       first = inr j.first;
+      apart = j.apart;
       before = j.before;
       wanted = granted-more (λ u. IsIn (unit_slot q.row u) p.granted) (units_in a.n q.mask) taken.row.wanted None u us j.left j.wanted tt;
       parity = j.parity;
       left = rest-more (units_in a.n q.mask) taken.row.wanted None u us j.left;
+      aside = j.aside.1;
     }
     unit-kept q u us p taken j None (Some grant) = record {
       same = j.same;
@@ -550,17 +583,18 @@ module _ (a : Access) (least : 3 ≤ a.n) where
       number = j.number;
       put = j.put;
       claimed = (inl refl, j.claimed);
+      granted = (inl refl, j.granted);
       first = inr j.first;
-      before = all-weaken (Covered p.granted) (Covered (unit_slot q.row u ∷ p.granted)) (λ row c. covered-more (Some grant) (unit_slot q.row u) p.granted row c) taken.before j.before;
+      apart = j.apart;
+      before = all-covered (Some grant) (unit_slot q.row u) p.granted taken.before j.apart j.before;
       wanted =
           granted-more (λ v. IsIn (unit_slot q.row v) (unit_slot q.row u ∷ p.granted)) (units_in a.n q.mask) taken.row.wanted (Some grant) u us j.left
           (all-weaken (λ v. IsIn (unit_slot q.row v) p.granted) (λ v. IsIn (unit_slot q.row v) (unit_slot q.row u ∷ p.granted)) (λ v i. inr i)
           (granted_of (zip (units_in a.n q.mask) taken.row.wanted)) j.wanted)
           (inl refl);
-      parity =
-          weaken-some (λ (grant : Grant). IsIn (parity_slot a.n q.row) p.granted) (λ (grant : Grant). IsIn (parity_slot a.n q.row) (unit_slot q.row u ∷ p.granted)) (λ grant i. inr i)
-          taken.row.parity j.parity;
+      parity = has-behind (parity_slot a.n q.row) (unit_slot q.row u) p.granted (is_some taken.row.parity) (aside-slot a.n q.row u j.aside.0) j.parity;
       left = rest-more (units_in a.n q.mask) taken.row.wanted (Some grant) u us j.left;
+      aside = j.aside.1;
     }
 
     module _ (part : RowPart) (left : List RowPart) (rest : Rows → Steps Finish)
@@ -649,6 +683,23 @@ module _ (a : Access) (least : 3 ≤ a.n) where
       abbrev parity_past : Past → Option Grant → Past
       parity_past p o = record p { claimed = parity_slot a.n part.row ∷ p.claimed; granted = grants o (parity_slot a.n part.row) p.granted }
 
+      -- the rows before are others
+      apart-before : (before : List Row) → SoFar a before (part ∷ left) → AllByRecursion (λ (row : Row). row.part.row ≡ part.row → ⊥) before
+      apart-before before so_far = differ-before before part left (subst RowsDiffer (sym so_far) differ)
+
+      rows-more : (rows : List Row) (slots : List Slot) → AllByRecursion (λ (slot : Slot). IsIn slot.row (rows_in rows)) slots
+          → AllByRecursion (λ (slot : Slot). (part.row ≡ slot.row) ⊎ IsIn slot.row (rows_in rows)) slots
+      rows-more rows slots all =
+          all-weaken (λ (slot : Slot). IsIn slot.row (rows_in rows)) (λ (slot : Slot). (part.row ≡ slot.row) ⊎ IsIn slot.row (rows_in rows)) (λ slot i. inr i) slots all
+
+      -- no slot of the row was granted yet
+      fresh : (rows : List Row) (slots : List Slot) → AllByRecursion (λ (row : Row). row.part.row ≡ part.row → ⊥) rows
+          → AllByRecursion (λ (slot : Slot). IsIn slot.row (rows_in rows)) slots → has_slot (parity_slot a.n part.row) slots ≡ false
+      fresh rows slots apart all =
+          has-none (parity_slot a.n part.row) slots
+          (all-weaken (λ (slot : Slot). IsIn slot.row (rows_in rows)) (λ (slot : Slot). is_slot (parity_slot a.n part.row) slot ≡ false)
+          (λ slot i. row-apart (parity_slot a.n part.row) slot (λ same. not-among rows part.row apart (subst (λ (x : RowNo). IsIn x (rows_in rows)) (sym same) i))) slots all)
+
       begun-row : (p : Past) (done : Rows) (o : Option Grant) → Took done.rows p → SoFar a done.rows (part ∷ left)
           → AtUnits (parity_past p o) (with_grant with_parity (begun part done) (parity_bay a.n part.row) o)
       begun-row p done None j so_far = (
@@ -657,12 +708,15 @@ module _ (a : Access) (least : 3 ≤ a.n) where
           phase = j.phase;
           number = j.number;
           put = j.put;
-          claimed = (inl refl, all-weaken (λ (claim : Slot). IsIn claim.row (rows_in done.rows)) (λ (claim : Slot). (part.row ≡ claim.row) ⊎ IsIn claim.row (rows_in done.rows)) (λ claim i. inr i) p.claimed j.claimed);
+          claimed = (inl refl, rows-more done.rows p.claimed j.claimed);
+          granted = rows-more done.rows p.granted j.granted;
           first = inl refl;
+          apart = apart-before done.rows so_far;
           before = j.covered;
           wanted = none-granted (λ u. IsIn (unit_slot part.row u) p.granted) (units_in a.n part.mask);
-          parity = tt;
+          parity = fresh done.rows p.granted (apart-before done.rows so_far) j.granted;
           left = refl;
+          aside = all-kept (Aside a.n part.row) (has_unit part.mask) (units a.n) (units-aside a.n part.row);
         },
         taking-granted a part left with_parity keeps-parity (begun part done) (parity_bay a.n part.row) None (record { row = refl; parts = so_far }),
       )
@@ -672,14 +726,15 @@ module _ (a : Access) (least : 3 ≤ a.n) where
           phase = j.phase;
           number = j.number;
           put = j.put;
-          claimed = (inl refl, all-weaken (λ (claim : Slot). IsIn claim.row (rows_in done.rows)) (λ (claim : Slot). (part.row ≡ claim.row) ⊎ IsIn claim.row (rows_in done.rows)) (λ claim i. inr i) p.claimed j.claimed);
+          claimed = (inl refl, rows-more done.rows p.claimed j.claimed);
+          granted = (inl refl, rows-more done.rows p.granted j.granted);
           first = inl refl;
-          before =
-              all-weaken (Covered p.granted) (Covered (parity_slot a.n part.row ∷ p.granted)) (λ row c. covered-more (Some grant) (parity_slot a.n part.row) p.granted row c)
-              done.rows j.covered;
+          apart = apart-before done.rows so_far;
+          before = all-covered (Some grant) (parity_slot a.n part.row) p.granted done.rows (apart-before done.rows so_far) j.covered;
           wanted = none-granted (λ u. IsIn (unit_slot part.row u) (parity_slot a.n part.row ∷ p.granted)) (units_in a.n part.mask);
-          parity = inl refl;
+          parity = in-has (parity_slot a.n part.row) (parity_slot a.n part.row ∷ p.granted) (inl refl);
           left = refl;
+          aside = all-kept (Aside a.n part.row) (has_unit part.mask) (units a.n) (units-aside a.n part.row);
         },
         taking-granted a part left with_parity keeps-parity (begun part done) (parity_bay a.n part.row) (Some grant) (record { row = refl; parts = so_far }),
       )
@@ -716,4 +771,4 @@ module _ (a : Access) (least : 3 ≤ a.n) where
 
 pub writes_keep_phases : WritesKeepPhases
 writes_keep_phases a least differ =
-    rows-keep a least differ a.parts (begins (number_of a.mode a.id)) no_rows (record { phase = omega arith; number = refl; put = refl; claimed = tt; covered = tt }) refl
+    rows-keep a least differ a.parts (begins (number_of a.mode a.id)) no_rows (record { phase = omega arith; number = refl; put = refl; claimed = tt; granted = tt; covered = tt }) refl

@@ -1,7 +1,7 @@
 -- In which order an attempt asks, whatever the replies: it takes its slots, in each row the parity first. It confirms
 -- each row. It puts under its own notes alone, each slot once and the parity of a row last. Then it gives back.
-use Rattle.std.specs.Prelude.{◌≡◌, ◌⊎◌, ℕ, ◌<◌, ◌≤◌, ◌||◌, List, [], ◌∷◌, length, Option, Some, None, Result, Ok, Err, if◌then◌else◌}
-use Rattle.std.specs.List.{AllByRecursion}
+use Rattle.std.specs.Prelude.{◌≡◌, ◌⊎◌, ℕ, ◌<◌, ◌≤◌, ◌==◌, ◌&&◌, Bool, true, false, List, [], ◌∷◌, length, Option, Some, None, Result, Ok, Err, if◌then◌else◌}
+use Rattle.std.specs.List.{AllByRecursion, list_any}
 use Rattle.raid_base.specs.declared.numbers.BayNo.{BayNo}
 use Rattle.raid_base.specs.declared.numbers.RowNo.{RowNo}
 use Rattle.raid_base.specs.declared.numbers.Number.{Number}
@@ -35,13 +35,20 @@ pub record Slot : Type 0 where
 abbrev pub parity_slot : ℕ → RowNo → Slot
 parity_slot n row = record { bay = parity_bay n row; row = row }
 
+-- the same slot
+abbrev pub is_slot : Slot → Slot → Bool
+is_slot x y = (x.bay.0 == y.bay.0) && (x.row.0 == y.row.0)
+
+abbrev pub has_slot : Slot → List Slot → Bool
+has_slot slot slots = list_any (is_slot slot) slots
+
 -- it is one of these
 abbrev pub IsIn : {X : Type 0} → X → List X → Type 0
 IsIn x [] = ⊥
 IsIn x (y ∷ ys) = (y ≡ x) ⊎ IsIn x ys
 
 -- what an attempt has done so far: the phase that it is in, its number, the slots that it claimed, those that were
--- granted to its claims, the rows whose confirm was answered Held or Missing, and the slots that it put
+-- granted to its claims, the rows whose confirm was answered as is due, and the slots that it put
 pub record Past : Type 0 where
   pub phase : ℕ
   pub number : Option Number
@@ -65,7 +72,7 @@ pub record MayPut (n : ℕ) (past : Past) (slot : Slot) : Type 0 where
   pub once : IsIn slot past.put → ⊥
   pub parity_last : IsIn (parity_slot n slot.row) past.put → ⊥
 
--- the phases are 0 for shares and claims, 1 for confirms, 2 for puts and 3 for releases
+-- the phases are 0 for shares and claims, 1 for confirms, 2 for puts and 3 for releases alone
 abbrev pub MayAsk : ℕ → Number → Past → BayNo → Request → Type 0
 MayAsk n id past bay (Share row by want) = (by ≡ id) × (past.phase ≤ 0)
 MayAsk n id past bay (Claim row by how mask want) =
@@ -77,7 +84,11 @@ MayAsk n id past bay (Release row by number) = by ≡ id
 MayAsk n id past bay Lose = ⊥
 MayAsk n id past bay Fit = ⊥
 
--- After a reply
+-- After a reply. A confirm is answered as is due: held where the parity was granted, and missing where it was not
+abbrev pub is_due : Bool → Reply → Bool
+is_due true reply = is_held reply
+is_due false reply = is_missing reply
+
 abbrev pub grants : Option Grant → Slot → List Slot → List Slot
 grants None slot slots = slots
 grants (Some grant) slot slots = slot ∷ slots
@@ -87,7 +98,7 @@ after_asking past bay (Share row by want) reply = past
 after_asking past bay (Claim row by how mask want) reply =
     record past { claimed = record { bay = bay; row = row } ∷ past.claimed; granted = grants (grant_of reply) (record { bay = bay; row = row }) past.granted }
 after_asking past bay (Confirm row by want) reply =
-    record past { phase = 1; confirmed = if is_held reply || is_missing reply then row ∷ past.confirmed else past.confirmed }
+    record past { phase = 1; confirmed = if is_due (has_slot (record { bay = bay; row = row }) past.granted) reply then row ∷ past.confirmed else past.confirmed }
 after_asking past bay (Put row by number cell) reply = record past { phase = 2; put = record { bay = bay; row = row } ∷ past.put }
 after_asking past bay (Release row by number) reply = record past { phase = 3 }
 after_asking past bay Lose reply = past
@@ -96,10 +107,10 @@ after_asking past bay Fit reply = past
 abbrev pub after : Past → Errand → Reply → Past
 after past errand reply = after_asking past errand.bay errand.request reply
 
--- and after a number
+-- and after a number: no share, claim or confirm follows, and none but releases where it is spent
 abbrev pub after_number : Past → Result Number Spent → Past
-after_number past (Ok n) = record past { number = Some n }
-after_number past (Err spent) = past
+after_number past (Ok n) = record past { number = Some n; phase = 2 }
+after_number past (Err spent) = record past { phase = 3 }
 
 -- Whatever the replies and the numbers drawn: each request may be asked after what was before it, a number is drawn
 -- before any put and only by an attempt that has none, and the end is Q of what was before.

@@ -47,20 +47,22 @@ pub fn recoveries_keep_bay_bounds()
     ensures { RecoveriesObeyAt }
 {}
 
-/// Every read shares its slots and then gives them back. It claims nothing and puts nothing.
+/// Every read shares its slots and then gives them back. Once its number is drawn it only gives back. It claims nothing
+/// and puts nothing.
 pub fn reads_keep_phases()
     ensures { ReadsKeepPhases }
 {}
 
-/// Every write of different rows claims each parity before the row's units, confirms each row that it claimed, and then
-/// puts each slot at most once, under a note that was granted to it, the parity of a row last, and under its number.
-/// Where it is refused it has put nothing.
+/// Every write of different rows claims each parity before the row's units, and confirms each row that it claimed: its
+/// parity is still held where it was granted, and still missing where it was not. Under locks its number is drawn then.
+/// After that it puts each slot at most once, under a note that was granted to it, the parity of a row last, and under its
+/// number. Where it is refused it has put nothing.
 pub fn writes_keep_phases()
     ensures { WritesKeepPhases }
 {}
 
 /// Every rebuild of a row claims the parity first, and puts at most one slot, which was granted to it, once the row is
-/// confirmed.
+/// confirmed and its number drawn.
 pub fn rebuilds_keep_phases()
     ensures { MendsKeepPhases }
 {}
