@@ -15,5 +15,6 @@ pub mod PhaseLemmas
 pub mod ReadPhases
 pub mod RepairPhases
 pub mod WritePhases
+pub mod NumberingLemmas
 pub mod PartLemmas
 pub mod WholeLemmas

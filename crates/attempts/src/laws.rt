@@ -1,6 +1,7 @@
 //! Laws of attempts, each the contract of a function without a body.
 ghost use Rattle.attempts.specs.Discipline.{ReadsObey, WritesObey, MendsObey, RecoveriesObey};
 ghost use Rattle.attempts.specs.Phases.{ReadsKeepPhases, WritesKeepPhases, MendsKeepPhases, RecoveriesKeepPhases};
+ghost use Rattle.attempts.specs.Numbering.{SeenCovers, DrawsAreAbove};
 ghost use Rattle.attempts.specs.BayBounds.{ReadsObeyAt, WritesObeyAt, MendsObeyAt, RecoveriesObeyAt};
 
 /// Every read, whatever the replies and the numbers drawn, asks within the array, in all at most four times as often as
@@ -70,4 +71,15 @@ pub fn rebuilds_keep_phases()
 /// And so does every recovery of a row.
 pub fn recoveries_keep_phases()
     ensures { RecoveriesKeepPhases }
+{}
+
+/// Whatever an attempt is answered and draws, what its host has seen never falls, and covers every number that a reply
+/// has shown it: the numbers of a grant, the origin of a note that it seized, the number above, and the floor.
+pub fn seen_numbers_are_covered()
+    ensures { SeenCovers }
+{}
+
+/// A number that a host draws is above all that it has seen, is its own, and is within the numbers.
+pub fn numbers_are_above()
+    ensures { DrawsAreAbove }
 {}
