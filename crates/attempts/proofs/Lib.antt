@@ -11,6 +11,10 @@ pub mod BayLemmas
 pub mod ReadBays
 pub mod WriteBays
 pub mod RepairBays
+pub mod FinishLemmas
+pub mod ReadFinishes
+pub mod WriteFinishes
+pub mod RepairFinishes
 pub mod PhaseLemmas
 pub mod ReadPhases
 pub mod RepairPhases

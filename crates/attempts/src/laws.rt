@@ -2,6 +2,7 @@
 ghost use Rattle.attempts.specs.Discipline.{ReadsObey, WritesObey, MendsObey, RecoveriesObey};
 ghost use Rattle.attempts.specs.Phases.{ReadsKeepPhases, WritesKeepPhases, MendsKeepPhases, RecoveriesKeepPhases};
 ghost use Rattle.attempts.specs.Numbering.{SeenCovers, DrawsAreAbove};
+ghost use Rattle.attempts.specs.Finishes.{ReadsFinish, OthersFinish};
 ghost use Rattle.attempts.specs.BayBounds.{ReadsObeyAt, WritesObeyAt, MendsObeyAt, RecoveriesObeyAt};
 
 /// Every read, whatever the replies and the numbers drawn, asks within the array, in all at most four times as often as
@@ -82,4 +83,15 @@ pub fn seen_numbers_are_covered()
 /// A number that a host draws is above all that it has seen, is its own, and is within the numbers.
 pub fn numbers_are_above()
     ensures { DrawsAreAbove }
+{}
+
+/// Every read that is done gives a content for each of its units, and one that is refused none. A read ends in no other
+/// way.
+pub fn reads_finish()
+    ensures { ReadsFinish }
+{}
+
+/// No write, rebuild or recovery gives contents, or ends as a read does.
+pub fn others_finish()
+    ensures { OthersFinish }
 {}
