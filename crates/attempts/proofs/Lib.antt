@@ -16,9 +16,15 @@ pub mod ReadFinishes
 pub mod WriteFinishes
 pub mod RepairFinishes
 pub mod PhaseLemmas
+pub mod SoundLemmas
+pub mod GotLemmas
 pub mod ReadPhases
 pub mod RepairPhases
 pub mod WritePhases
+pub mod ReadSound
+pub mod RepairSound
+pub mod WriteSums
+pub mod WriteSound
 pub mod NumberingLemmas
 pub mod PartLemmas
 pub mod WholeLemmas

@@ -17,7 +17,7 @@ part-most : (n : ℕ) (part : RowPart) → IsPart n part → part.count ≤ n - 
 part-most n part p =
     omega (arith, p.counted, length-filter_both (has_unit part.mask) (λ unit. not (has_unit part.mask unit)) (λ _. refl) (range_with_len 0 (n - 1)), length-range_with_len 0 (n - 1))
 
-blocks-cons : (part : RowPart) (parts : List RowPart) → blocks_in (part ∷ parts) ≡ part.count + blocks_in parts
+pub blocks-cons : (part : RowPart) (parts : List RowPart) → blocks_in (part ∷ parts) ≡ part.count + blocks_in parts
 blocks-cons part parts = sum_by_from (λ (p : RowPart). p.count) (0 + part.count) parts ∙ omega arith
 
 few-blocks : (n : ℕ) (parts : List RowPart) → n ≤ 16 → All (IsPart n) parts → blocks_in parts ≤ 15 * length parts

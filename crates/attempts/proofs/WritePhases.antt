@@ -61,7 +61,7 @@ module _ (P : ℕ → Type 0) where
   granted-more (u ∷ us) (None ∷ os) o v vs same all one = granted-more us os o v vs same all one
   granted-more (u ∷ us) (Some x ∷ os) o v vs same all one = (all.0, granted-more us os o v vs same all.1 one)
 
-  all-granted : (us : List ℕ) (os : List (Option Grant)) → AllByRecursion P us → AllByRecursion P (granted_of (zip us os))
+  pub all-granted : (us : List ℕ) (os : List (Option Grant)) → AllByRecursion P us → AllByRecursion P (granted_of (zip us os))
   all-granted [] os all = tt
   all-granted (u ∷ us) [] all = tt
   all-granted (u ∷ us) (None ∷ os) all = all-granted us os all.1

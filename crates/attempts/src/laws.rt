@@ -3,6 +3,7 @@ ghost use Rattle.attempts.specs.Discipline.{ReadsObey, WritesObey, MendsObey, Re
 ghost use Rattle.attempts.specs.Phases.{ReadsKeepPhases, WritesKeepPhases, MendsKeepPhases, RecoveriesKeepPhases};
 ghost use Rattle.attempts.specs.Numbering.{SeenCovers, DrawsAreAbove};
 ghost use Rattle.attempts.specs.Finishes.{ReadsFinish, OthersFinish};
+ghost use Rattle.attempts.specs.Sound.{ReadsTell, WritesKeepRowsSound, MendsRestore, RecoveriesMakeSound};
 ghost use Rattle.attempts.specs.BayBounds.{ReadsObeyAt, WritesObeyAt, MendsObeyAt, RecoveriesObeyAt};
 
 /// Every read, whatever the replies and the numbers drawn, asks within the array, in all at most four times as often as
@@ -94,4 +95,27 @@ pub fn reads_finish()
 /// No write, rebuild or recovery gives contents, or ends as a read does.
 pub fn others_finish()
     ensures { OthersFinish }
+{}
+
+/// Where the replies show the cells of sound rows, a read puts nothing, and tells the contents of its units once it is
+/// done, those of a missing slot too.
+pub fn reads_tell()
+    ensures { ReadsTell }
+{}
+
+/// Where the replies to a write show the cells of sound rows, it puts the cells of rows that are sound again and have
+/// its blocks in their units, and commits these blocks.
+pub fn writes_keep_rows_sound()
+    ensures { WritesKeepRowsSound }
+{}
+
+/// Where the replies show the cells of a sound row, its rebuild puts the cell that the slot had.
+pub fn rebuilds_restore()
+    ensures { MendsRestore }
+{}
+
+/// Where the replies show the data of a row, whatever its parity is, a recovery puts nothing but a parity with which the
+/// row is sound, a unit that it gives up being lost.
+pub fn recoveries_make_sound()
+    ensures { RecoveriesMakeSound }
 {}
