@@ -26,5 +26,10 @@ pub mod RepairSound
 pub mod WriteSums
 pub mod WriteSound
 pub mod NumberingLemmas
+pub mod ReturnLemmas
+pub mod RepairReturns
+pub mod ReadReturns
+pub mod WriteReturns
+pub mod WrittenReturns
 pub mod PartLemmas
 pub mod WholeLemmas

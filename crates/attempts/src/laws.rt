@@ -1,6 +1,7 @@
 //! Laws of attempts, each the contract of a function without a body.
 ghost use Rattle.attempts.specs.Discipline.{ReadsObey, WritesObey, MendsObey, RecoveriesObey};
 ghost use Rattle.attempts.specs.Phases.{ReadsKeepPhases, WritesKeepPhases, MendsKeepPhases, RecoveriesKeepPhases};
+ghost use Rattle.attempts.specs.Returns.{ReadsReturn, WritesReturn, WrittenWritesReturn, MendsReturn, RecoveriesReturn};
 ghost use Rattle.attempts.specs.Numbering.{SeenCovers, DrawsAreAbove};
 ghost use Rattle.attempts.specs.Finishes.{ReadsFinish, OthersFinish};
 ghost use Rattle.attempts.specs.Sound.{ReadsTell, WritesKeepRowsSound, MendsRestore, RecoveriesMakeSound};
@@ -118,4 +119,30 @@ pub fn rebuilds_restore()
 /// row is sound, a unit that it gives up being lost.
 pub fn recoveries_make_sound()
     ensures { RecoveriesMakeSound }
+{}
+
+/// Every read has given back what it held when it ends, whatever the replies and the numbers drawn.
+pub fn reads_return()
+    ensures { ReadsReturn }
+{}
+
+/// Every write that is refused has given back what it held.
+pub fn writes_return()
+    ensures { WritesReturn }
+{}
+
+/// And so has every write of the parts of a job that is done, where the replies fit the requests.
+pub fn written_writes_return()
+    ensures { WrittenWritesReturn }
+{}
+
+/// Every rebuild of a row has given back what it held when it ends.
+pub fn rebuilds_return()
+    ensures { MendsReturn }
+{}
+
+/// A recovery that is refused has given back all but what it seized and a parity to which its put failed. One that is
+/// done has given back all.
+pub fn recoveries_return()
+    ensures { RecoveriesReturn }
 {}
