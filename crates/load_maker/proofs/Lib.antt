@@ -1,0 +1,9 @@
+pub mod DrawLemmas
+pub mod DealLemmas
+pub mod HalfLemmas
+pub mod TallyLemmas
+pub mod SummaryTexts
+pub mod RowLemmas
+pub mod LoadScripts
+pub mod LoadWeights
+pub mod LoadParts

@@ -1,0 +1,4 @@
+pub mod Accesses
+pub mod Load
+pub mod Summary
+pub mod Tallies
