@@ -88,7 +88,7 @@ fn sim_run_and_a_load_are_commands(rt: HostRuntime) -> Result<(), Fail> {
 
 #[test]
 fn other_words_are_no_command(rt: HostRuntime) -> Result<(), Fail> {
-    let table: [&[&str]; 22] = [
+    let table: [&[&str]; 28] = [
         &[],
         &[""],
         &["", ""],
@@ -96,11 +96,16 @@ fn other_words_are_no_command(rt: HostRuntime) -> Result<(), Fail> {
         &["simm"],
         &["Sim"],
         &["sim", "--"],
+        &["sim", ""],
         &["--", "sim"],
         &["sim", "sim"],
         &["run", "x"],
-        &["help"],
+        &["-"],
+        &["-h"],
         &["--help"],
+        &["help"],
+        &["help", "sim"],
+        &["x", "load"],
         &["load"],
         &["load", ""],
         &["load", "0"],
@@ -110,6 +115,7 @@ fn other_words_are_no_command(rt: HostRuntime) -> Result<(), Fail> {
         &["load", "1501"],
         &["load", "18446744073709551617"],
         &["load", "5", "5"],
+        &["load", "5", "--"],
         &["load", "--", "5"],
     ];
     for texts in &table {

@@ -1,10 +1,14 @@
 //! Which words the program takes, and the number that it exits with.
-ghost use Rattle.std.specs.Prelude.{◌≡◌, IfOk, map, string_bytes};
+ghost use Rattle.std.specs.Prelude.{◌≡◌, ◌⊎◌, IfErr, IfOk, None, map, string_bytes};
+ghost use Rattle.clap.specs.Words.{app_of, kind_of, subcommand_of, subcommand_rows_of};
+ghost use Rattle.array_cli.specs.CommandLine.{command_line};
 ghost use Rattle.array_cli.specs.Commands.{command_of, jobs_of, load_of, one_word_of};
 ghost use Rattle.array_cli.specs.Exits.{exit_number};
 
+use clap::error::ErrorKind;
+use clap::{Arg, ArgMatches};
 use raid_base::{NoMemory, Status};
-use std::alloc::Global;
+use std::alloc::{AllocError, Global};
 use text_lines::read_number;
 
 /// How many jobs a load may have.
@@ -56,15 +60,51 @@ fn read_load(word: &str, number: &str) -> Option<Command>
     Some(Command::Load { jobs })
 }
 
+/// The command line: `sim` and `run` alone, and `load` with a number of jobs.
+fn command_line<'a>(alloc: Global) -> Result<clap::Command<'a>, AllocError>
+    ensures { IfOk result (λ line. app_of line ≡ command_line) }
+{
+    let jobs = Arg::new(alloc, "jobs").required(true);
+    let load = clap::Command::new(alloc, "load").arg(jobs)?;
+    clap::Command::new(alloc, "array")
+        .no_binary_name(true)
+        .disable_help_flag(true)
+        .disable_help_subcommand(true)
+        .subcommand(clap::Command::new(alloc, "sim"))?
+        .subcommand(clap::Command::new(alloc, "run"))?
+        .subcommand(load)
+}
+
+/// What the command line finds in the words. Words that it takes are refused for want of memory alone.
+fn parse<'a>(alloc: Global, words: &'a [String]) -> Result<ArgMatches<'a>, clap::Error>
+    ensures found { IfOk result (λ matches. subcommand_rows_of matches ≡ subcommand_of command_line (map string_bytes words.entry.now)) }
+    ensures refused { IfErr result (λ error. (kind_of error ≡ ErrorKind.OutOfMemory) ⊎ (command_of (map string_bytes words.entry.now) ≡ None)) }
+{
+    command_line(alloc)?.try_get_matches_from(words)
+}
+
+/// The command that was found in these words. Nothing stands behind it.
+fn command_found(matches: &ArgMatches<'_>, words: &[String]) -> Option<Command>
+    requires { subcommand_rows_of matches.now ≡ subcommand_of command_line (map string_bytes words.now) }
+    ensures { result ≡ command_of (map string_bytes words.now) }
+{
+    let (name, arguments) = matches.subcommand()?;
+    match words {
+        [_] => read_word(name),
+        [_, _] => read_load(name, arguments.get_str("jobs")?),
+        _ => None,
+    }
+}
+
 /// The command that the words behind the program's name ask for.
-pub fn read_command(_alloc: Global, words: &[String]) -> Result<Option<Command>, NoMemory>
+pub fn read_command(alloc: Global, words: &[String]) -> Result<Option<Command>, NoMemory>
     ensures { IfOk result (λ command. command ≡ command_of (map string_bytes words.now)) }
 {
-    Ok(match words {
-        [word] => read_word(word.as_str()),
-        [word, number] => read_load(word.as_str(), number.as_str()),
-        _ => None,
-    })
+    match parse(alloc, words) {
+        Ok(matches) => Ok(command_found(&matches, words)),
+        Err(error) if error.kind() == ErrorKind::OutOfMemory => Err(NoMemory),
+        Err(_) => Ok(None),
+    }
 }
 
 /// The number that the program exits with: 0 where the run is done, and another for each other end.
