@@ -1,13 +1,20 @@
-//! The program `array`: `array sim` reads a script, plays it over devices in memory, and prints its report.
+//! The program `array`: `array sim` reads a script, plays it over devices in memory, and prints its report; `array load N`
+//! plays a script that is made from a number, and prints its summary.
 #![tactic(auto)]
 
-ghost use Rattle.std.specs.Prelude.{◌≡◌, IfOk, replicate};
+ghost use Rattle.std.specs.Prelude.{◌≡◌, ℕ, IfErr, IfOk, Some, map, replicate, string_bytes};
+ghost use Rattle.std.specs.Process.{exit_status};
 ghost use Rattle.raid_base.specs.Cells.{zeros};
+ghost use Rattle.block_store.specs.contracts.memory.MemoryStoreStore.TheImpl.{ghosts as memory_stores};
+ghost use Rattle.array_cli.specs.Commands.{command_of};
+ghost use Rattle.array_cli.specs.Exits.{exit_number};
+ghost use Rattle.array_cli.specs.Runs.{IsCall, IsLoad, IsNoCall, IsNoCallFor};
+ghost use Rattle.array_cli.specs.declared.words.Command.TheVariants.{Sim, Load};
 
-use array_cli::{array, exit_number};
+use array_cli::{Outcome, array, exit_number};
 use block_store::MemoryStore;
 use raid_base::streams::standard::{ReaderSource, WriterSink};
-use raid_base::{NoMemory, Status};
+use raid_base::{NoMemory, Sink, Source, Status};
 use std::alloc::Global;
 use std::process::ExitCode;
 use std::{env, io};
@@ -34,15 +41,36 @@ fn devices(alloc: Global, count: u8, blocks: u32) -> Result<Vec<MemoryStore>, No
     Ok(stores)
 }
 
+/// Does what the words say, over some input and output and sixteen devices of 4,096 blocks of zeros.
+fn run_over<S: Source, K: Sink>(
+    alloc: Global,
+    words: &[String],
+    source: &mut S,
+    sink: &mut K,
+) -> Result<Outcome<MemoryStore>, NoMemory>
+    ensures sim { command_of (map string_bytes words.now) ≡ Some Sim → IfOk result (λ outcome. IsCall S.Source K.Sink memory_stores source.old source.new sink.old sink.new (replicate 16 (replicate 4096 zeros)) outcome) }
+    ensures load { (n : ℕ) → command_of (map string_bytes words.now) ≡ Some (Load n) → IfOk result (λ outcome. IsLoad K.Sink memory_stores n sink.old sink.new (replicate 16 (replicate 4096 zeros)) outcome × (source.new ≡ source.old)) }
+    ensures others { IsNoCallFor (command_of (map string_bytes words.now)) → IfOk result (λ outcome. IsNoCall (command_of (map string_bytes words.now)) (replicate 16 (replicate 4096 zeros)) outcome × (source.new ≡ source.old) × (sink.new ≡ sink.old)) }
+    ensures memory { IfErr result (λ _. (source.new ≡ source.old) × (sink.new ≡ sink.old)) }
+{
+    let stores = devices(alloc, 16, 4_096)?;
+    Ok(array(alloc, words, source, sink, stores))
+}
+
 /// Does what the words say, over standard input and output.
 fn run(rt: &HostRuntime) -> Result<Status, NoMemory> {
-    let alloc = rt.alloc();
     let words = words(rt)?;
-    let stores = devices(alloc, 16, 4_096)?;
     let mut source = ReaderSource::over(rt.reader());
     let mut sink = WriterSink::over(io::writer(rt));
-    let outcome = array(alloc, words.as_slice(), &mut source, &mut sink, stores);
+    let outcome = run_over(rt.alloc(), words.as_slice(), &mut source, &mut sink)?;
     Ok(outcome.status)
+}
+
+/// What the process ends with.
+fn exit_code(status: Status) -> ExitCode
+    ensures { exit_status result ≡ exit_number status }
+{
+    ExitCode::from(exit_number(status))
 }
 
 fn main(rt: HostRuntime) -> ExitCode {
@@ -50,5 +78,5 @@ fn main(rt: HostRuntime) -> ExitCode {
     if status != Status::Done {
         let _ = eprintln!(rt; "array: {status}");
     }
-    ExitCode::from(exit_number(status))
+    exit_code(status)
 }

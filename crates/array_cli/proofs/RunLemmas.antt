@@ -1,50 +1,53 @@
--- What a run of the first form needs and leaves.
-use Rattle.std.proofs.Common.{◌≡◌, ℕ, ◌+◌, ◌<◌, ◌≤◌, ◌++◌, Bool, true, false, Option, Some, None, List, [], length, map, drop, get_or, refl, sym, ap, subst, ◌∙◌, arith, IsTrue}
+-- What a run needs and leaves.
+use Rattle.std.proofs.Common.{◌≡◌, ℕ, zero, suc, ◌+◌, ◌^◌, ◌<◌, ◌≤◌, ◌++◌, Bool, Option, List, [], ◌∷◌, length, map, drop, get_or, inl, inr, refl, sym, ap, subst, ◌∙◌, arith, IsTrue}
 use Rattle.std.specs.Prelude.{flat_map}
 use Rattle.raid_base.specs.declared.status.Status.{Status}
 use Rattle.raid_base.specs.declared.status.Status.TheVariants.{Done, Words, ReadFault, TooLong, BadScript, TooMuch, TooFewStores, TooSmall, StoreFault, WriteFault, Memory, NotYet}
 use Rattle.raid_base.specs.declared.jobs.JobResult.{JobResult}
 use Rattle.raid_base.specs.declared.messages.Turn.{Turn}
 use Rattle.raid_base.specs.declared.messages.Call.{Call}
+use Rattle.raid_base.specs.declared.messages.Entry.{Entry}
 use Rattle.raid_base.specs.declared.cells.Cell.{Cell}
 use Rattle.raid_base.specs.declared.cells.Content.{Content}
 use Rattle.raid_base.specs.declared.numbers.BayNo.{BayNo}
 use Rattle.raid_base.specs.declared.streams.Source.{Ghosts as SourceGhosts}
 use Rattle.raid_base.specs.declared.streams.Sink.{Ghosts as SinkGhosts}
-use Rattle.raid_base.specs.Counts.{Rises}
-use Rattle.raid_base.specs.Streams.{AppendsPart}
-use Rattle.schedule_play.specs.Faults.{fault_bay}
+use Rattle.raid_base.specs.Counts.{Rises, RisesBy}
 use Rattle.block_store.specs.declared.store.Store.{Ghosts}
 use Rattle.bay_device.specs.declared.bay.Bay.{Bay}
+use Rattle.bay_device.specs.Handling.{count_faults}
 use Rattle.script_text.specs.Script.{Script}
-use Rattle.script_text.specs.Text.{script_text}
-use Rattle.script_text.specs.First.{IsFirstForm, IsFirstText}
+use Rattle.script_text.specs.First.{IsFirstForm}
 use Rattle.script_text.specs.Ranges.{IsScript}
-use Rattle.script_text.proofs.FirstScripts.{first_is_script}
-use Rattle.host_engine.specs.History.{faults_in, turns_of}
+use Rattle.script_text.specs.Weights.{total}
+use Rattle.host_engine.specs.Bounds.{IsPlayable}
+use Rattle.host_engine.specs.History.{turns_of}
+use Rattle.host_engine.proofs.Quotas.{totals_cover_requests}
+use Rattle.host_engine.proofs.HostCauses.{causes_are_met}
 use Rattle.report_text.specs.Report.{ReportOf, report_text}
 use Rattle.report_text.specs.Views.{report_in}
-use Rattle.schedule_play.specs.Turns.{all_ended, sim}
+use Rattle.load_maker.specs.Load.{load_script}
+use Rattle.load_maker.specs.Summary.{summary_text}
 use Rattle.std.specs.Vec.{vec_len, vec_capacity}
 use Rattle.schedule_play.specs.declared.gathering.Gathered.{Gathered}
-use Rattle.schedule_play.specs.World.{EachAt, AllTell, AreOver, Keeps, Shows, IsReady, all_requests}
-use Rattle.schedule_play.specs.Plays.{Played}
-use Rattle.schedule_play.specs.Making.{AreBack, AreLarge, IsFirstSmall, IsRefusal, stores_of}
+use Rattle.schedule_play.specs.World.{AreOver, Keeps, Shows, IsReady, all_requests}
+use Rattle.schedule_play.specs.Making.{AreBack, AreLarge, IsRefusal, stores_of}
 use Rattle.schedule_play.specs.Gathering.{IsBlank, IsClosable, IsGathered}
-use Rattle.schedule_play.specs.Rows.{HasFailed, cells_after, opened_after}
-use Rattle.schedule_play.specs.FirstForm.{IsFirst, has_fault}
-use Rattle.schedule_play.specs.Headline.{Headline, StoresHold, results, contents, report_of}
+use Rattle.schedule_play.specs.Rows.{HasFailed, cells_after}
+use Rattle.schedule_play.specs.FirstForm.{IsFirst}
+use Rattle.schedule_play.specs.Headline.{StoresHold, results, contents, report_of}
 use Rattle.schedule_play.specs.declared.world.World.{World}
 use Rattle.schedule_play.specs.declared.making.WorldFault.{WorldFault}
 use Rattle.schedule_play.specs.declared.making.WorldFault.TheVariants as faults
-use Rattle.schedule_play.proofs.FirstStart.{first-playable, first-few}
 use Rattle.schedule_play.proofs.FirstReport.{first-report}
 use Rattle.schedule_play.proofs.FirstSerial.{first_plays_are_serial}
 use Rattle.schedule_play.proofs.FirstParity.{first_plays_keep_parity}
-use Rattle.schedule_play.proofs.CloseLemmas.{closed-journals, closed-stores, closed-back, fault-rises, failed-rises}
+use Rattle.schedule_play.proofs.CloseLemmas.{closed-journals, closed-stores, closed-back}
 use Rattle.schedule_play.proofs.ReportLemmas.{report-is}
+use Rattle.schedule_play.proofs.ContentLemmas.{contents-whole}
 use Rattle.array_cli.specs.declared.run.Outcome.{Outcome}
-use Rattle.array_cli.specs.Runs.{handed_out, HasFailedAt, HasPrinted, HasPlayed, HasRead, IsCall, IsCause, IsEmpty, IsInput, IsShort, IsPlayCause, IsPlayed, IsRefused, IsScriptPlayed, IsSilent}
+use Rattle.array_cli.specs.Runs.{handed_out, journal_of, AllTell, HasFailedBy, HasPlayed, HasStopped, HasCalled, HasLoaded, IsLoad, IsCall, IsEmpty, IsIdle, IsOpened, IsPlayed, IsRead, IsReported}
+use Rattle.array_cli.specs.Parts.{HasEnded, HasPrinted, IsFinished, IsRefused, IsUnplayed}
 
 is-first : (script : Script) → IsFirstForm script → IsFirst script
 is-first script f =
@@ -63,16 +66,8 @@ is-first script f =
       is = f.2;
     }
 
--- three devices of one row
-pub three : (script : Script) → IsFirstForm script → script.n ≡ 3
-three script f = ap (λ (s : Script). s.n) f.2
-
-one : (script : Script) → IsFirstForm script → script.rows ≡ 1
-one script f = ap (λ (s : Script). s.rows) f.2
-
-pub not-some : {X : Type 0} (o : Option X) → ((x : X) → o ≡ Some x → ⊥) → o ≡ None
-not-some None e = refl
-not-some (Some x) e = absurd (e x refl)
+pub playable : (script : Script) → IsScript script → IsPlayable script
+playable script is = record { ranges = is }
 
 -- a store that tells its blocks tells all
 abbrev pub Whole : {D : Type 0} → Ghosts D → Type 0
@@ -85,13 +80,28 @@ same-back {D} size faults n stores back same = subst (λ (xs : List D). AreBack 
   others = refl;
 })
 
-three-back : {D : Type 0} (size faults : D → ℕ) (script : Script) → IsFirstForm script → (stores back : List D) → AreBack size faults script.n stores back → AreBack size faults 3 stores back
-three-back size faults script f stores back all = subst (λ (n : ℕ). AreBack size faults n stores back) (three script f) all
+rises-plain : (n before now : ℕ) → RisesBy n before now → RisesBy (n + 0) before now
+rises-plain n before now r = subst (λ (m : ℕ). RisesBy m before now) (let e : n ≡ n + 0 = omega arith in e) r
 
-three-large : {D : Type 0} (size : D → ℕ) (script : Script) → IsFirstForm script → (stores : List D) → AreLarge size script.n script.rows stores → AreLarge size 3 1 stores
-three-large size script f stores large = subst (λ (n : ℕ). AreLarge size n 1 stores) (three script f) (subst (λ (rows : ℕ). AreLarge size script.n rows stores) (one script f) large)
+rises-more : (n before mid now : ℕ) → RisesBy n before mid → Rises mid now → RisesBy (n + 1) before now
+rises-more n before mid now r s = grind (arith)
 
 module _ {D : Type 0} {g : Ghosts D} where
+  -- some bay of a list
+  a-bay : (bays : List (Bay D g)) → 1 ≤ length bays → Bay D g
+  a-bay [] some = absurd (omega arith)
+  a-bay (b ∷ bays) some = b
+
+  journal-at : (bays : List (Bay D g)) (k : ℕ) (e : Bay D g) → k < length bays → get_or (map (λ (b : Bay D g). b.journal.items) bays) k [] ≡ (get_or bays k e).journal.items
+  journal-at [] k e inside = absurd (omega arith)
+  journal-at (b ∷ bays) zero e inside = refl
+  journal-at (b ∷ bays) (suc k) e inside = journal-at bays k e (omega (arith, inside))
+
+  stored-at : (bays : List (Bay D g)) (others : List D) (k : ℕ) (d : D) (e : Bay D g) → k < length bays → get_or (stores_of bays ++ others) k d ≡ (get_or bays k e).store
+  stored-at [] others k d e inside = absurd (omega arith)
+  stored-at (b ∷ bays) others zero d e inside = refl
+  stored-at (b ∷ bays) others (suc k) d e inside = stored-at bays others k d e (omega (arith, inside))
+
   -- a world over these stores
   pub record IsOverStores (script : Script) (stores : List D) (now : World D g) : Type 0 where
     pub large : AreLarge g.size script.n script.rows stores
@@ -99,12 +109,19 @@ module _ {D : Type 0} {g : Ghosts D} where
     pub count : length now.bays.items ≡ script.n
     pub others : now.others.items ≡ drop script.n stores
 
-  pub ready : (script : Script) → IsFirstForm script → (history : List Call) (now : World D g) → Shows script history now → IsReady now
-  ready script f history now shows = record {
+  -- all that is handed out of it
+  pub record IsHandedOut (now : World D g) (outcome : Outcome D) : Type 0 where
+    pub journals : map (λ journal. journal.items) outcome.journals.items ≡ map (λ (b : Bay D g). b.journal.items) now.bays.items
+    pub results : outcome.results ≡ now.gathered.results
+    pub turns : outcome.turns ≡ now.turns
+    pub stores : outcome.stores.items ≡ stores_of now.bays.items ++ now.others.items
+
+  pub ready : (script : Script) → IsScript script → total script ≤ 2 ^ 20 → (history : List Call) (now : World D g) → Shows script history now → IsReady now
+  ready script is few history now shows = record {
     script = script;
     history = history;
-    playable = first-playable script f;
-    few = let h = first-few script f in omega arith;
+    playable = playable script is;
+    few = let h : all_requests script ≤ total script = (totals_cover_requests script (playable script is)).all in omega (arith, h, few);
     shows = shows;
   }
 
@@ -135,220 +152,222 @@ module _ {D : Type 0} {g : Ghosts D} where
     others = ap (λ (v : _). v.items) others ∙ at.others;
   }
 
-  back-of-world : (script : Script) → IsFirstForm script → (stores : List D) (now : World D g) (outcome : Outcome D) → IsOverStores script stores now →
-      outcome.stores.items ≡ stores_of now.bays.items ++ now.others.items → AreBack g.size g.faults 3 stores outcome.stores.items
-  back-of-world script f stores now outcome at out =
-      three-back g.size g.faults script f stores outcome.stores.items (closed-back script.n stores now.bays.items now.others.items outcome.stores.items at.over at.count at.large.enough at.others out)
+  pub over-finished : (script : Script) (stores : List D) (now : World D g) → IsFinished g script stores now → IsOverStores script stores now
+  over-finished script stores now f = record { large = f.large; over = f.over; count = f.shows.bay_count; others = f.others }
 
-  -- a world in which a script of the first form was played to its end, without a fault
-  pub record IsAtEnd (script : Script) (history : List Call) (now : World D g) : Type 0 where
-    pub shows : Shows script history now
-    pub told : AllTell now.bays.items
-    pub gathered : IsGathered script history now.gathered
-    pub played : history ≡ sim script (faults_in history) (all_requests script)
-    pub over : all_ended script history ≡ true
-    pub well : has_fault history ≡ false
+  -- the count of each store has risen by the Faults of its journal
+  failed-by : (more : ℕ) (script : Script) (stores : List D) (now : World D g) (outcome : Outcome D) (at : ℕ) → IsOverStores script stores now → IsHandedOut now outcome → at < length now.bays.items →
+      ((d : D) (e : Bay D g) → RisesBy (count_faults (get_or now.bays.items at e).journal.items + more) (g.faults (get_or stores at d)) (g.faults (get_or now.bays.items at e).store)) →
+      HasFailedBy g more at stores outcome
+  failed-by more script stores now outcome at over out inside each d =
+      let b = a-bay now.bays.items (omega (arith, inside)) in
+      let told : journal_of outcome at ≡ (get_or now.bays.items at b).journal.items =
+      ap (λ (js : List (List Entry)). get_or js at []) out.journals ∙ journal-at now.bays.items at b inside in
+      let held : get_or outcome.stores.items at d ≡ (get_or now.bays.items at b).store = ap (λ (xs : List D). get_or xs at d) out.stores ∙ stored-at now.bays.items now.others.items at d b inside in
+      subst (λ (x : D). RisesBy (count_faults (journal_of outcome at) + more) (g.faults (get_or stores at d)) (g.faults x)) (sym held)
+      (subst (λ (js : List Entry). RisesBy (count_faults js + more) (g.faults (get_or stores at d)) (g.faults (get_or now.bays.items at b).store)) (sym told) (each d b))
 
-  -- what is handed out of it
-  pub record IsHandedOut (now : World D g) (outcome : Outcome D) : Type 0 where
-    pub journals : map (λ journal. journal.items) outcome.journals.items ≡ map (λ (b : Bay D g). b.journal.items) now.bays.items
-    pub results : outcome.results ≡ now.gathered.results
-    pub turns : outcome.turns ≡ now.turns
-    pub stores : outcome.stores.items ≡ stores_of now.bays.items ++ now.others.items
-
-  pub headline-of : Whole g → (script : Script) → IsFirstForm script → (history : List Call) (now : World D g) (outcome : Outcome D) → IsAtEnd script history now → IsHandedOut now outcome →
-      Headline script (handed_out g outcome) (report_of script history)
-  headline-of whole script f history now outcome at out =
-      let first = is-first script f in
-      let report = first-report script history (all_requests script) first at.played at.well at.over in
-      record {
-        history = history;
-        input_output = refl;
-        play = record {
-          most = all_requests script;
-          played = at.played;
-          over = at.over;
-          journals = out.journals ∙ closed-journals script history now.bays.items at.shows.bays at.shows.bay_count;
-          results = ap (λ (r : _). r.items) out.results ∙ at.gathered.results;
-          turns = ap (λ (t : _). t.items) out.turns ∙ at.shows.turns;
-          stores = subst (λ (stores : List D). StoresHold script history (map g.content stores)) (sym out.stores)
-              (closed-stores script history now.bays.items now.others.items at.shows.bays at.told at.shows.bay_count whole);
-        };
-        serial = first_plays_are_serial script history (all_requests script) first at.played at.well at.over;
-        parity = first_plays_keep_parity script history (all_requests script) first at.played at.well;
-        lost_blocks = report.lost_blocks;
-        causes = report.causes;
-      }
-
-  -- and its report
-  pub report-of : (script : Script) → IsFirstForm script → (history : List Call) (now : World D g) → IsAtEnd script history now →
-      report_in script now.gathered.results.items now.gathered.contents.items now.turns.items now.gathered.cells.items now.gathered.opened.items ≡ report_of script history
-  report-of script f history now at =
-      let report = first-report script history (all_requests script) (is-first script f) at.played at.well at.over in
-      let told : List JobResult → List Content → List Turn → List (Option Cell) → List Bool → ReportOf = report_in script in
-      let reads = flat_map (λ (read : List Content). read) (contents script history) in
-      ap (λ (x : List JobResult). told x now.gathered.contents.items now.turns.items now.gathered.cells.items now.gathered.opened.items) at.gathered.results
-      ∙ ap (λ (x : List Content). told (results script history) x now.turns.items now.gathered.cells.items now.gathered.opened.items) at.gathered.contents
-      ∙ ap (λ (x : List Turn). told (results script history) reads x now.gathered.cells.items now.gathered.opened.items) at.shows.turns
-      ∙ ap (λ (x : List (Option Cell)). told (results script history) reads (turns_of history) x now.gathered.opened.items) at.gathered.cells
-      ∙ ap (λ (x : List Bool). told (results script history) reads (turns_of history) (cells_after script history) x) at.gathered.opened
-      ∙ report-is script history (first-playable script f).ranges report.contents
-
-module _ {K D : Type 0} {k : SinkGhosts K} {g : Ghosts D} where
-  -- an end of a certain status
-  ends-so : (script : Script) (sink after : K) (stores : List D) (outcome : Outcome D) (status : Status) → outcome.status ≡ status →
-      IsPlayCause k g sink after stores outcome.stores.items status → AreBack g.size g.faults 3 stores outcome.stores.items →
-      (k.tells sink ≡ true → EachAt (λ at store. at < 3 → IsTrue (g.tells store)) stores → HasPlayed g (script_text script) (k.written sink) (k.written after) outcome status) →
-      IsSilent sink after outcome status → IsScriptPlayed k g script sink after stores outcome
-  ends-so script sink after stores outcome status is cause back played silent = record {
-    cause = subst (λ (s : Status). IsPlayCause k g sink after stores outcome.stores.items s) (sym is) cause;
-    stores_back = back;
-    played = λ told tells. subst (λ (s : Status). HasPlayed g (script_text script) (k.written sink) (k.written after) outcome s) (sym is) (played told tells);
-    silent = subst (λ (s : Status). IsSilent sink after outcome s) (sym is) silent;
+  pub opened : (script : Script) (stores : List D) (now : World D g) (outcome : Outcome D) → IsOverStores script stores now → IsHandedOut now outcome → IsOpened g script stores outcome
+  opened script stores now outcome over out = record {
+    large = over.large;
+    stores_back = closed-back script.n stores now.bays.items now.others.items outcome.stores.items over.over over.count over.large.enough over.others out.stores;
+    faults = λ at below.
+        let inside : at < length now.bays.items = omega (arith, below, over.count) in
+        failed-by 0 script stores now outcome at over out inside
+        (λ d e. rises-plain (count_faults (get_or now.bays.items at e).journal.items) (g.faults (get_or stores at d)) (g.faults (get_or now.bays.items at e).store) (over.over at d e inside).faults);
   }
 
+  -- the play that is handed out
+  pub is-played : Whole g → (script : Script) → IsScript script → (history : List Call) (now : World D g) (outcome : Outcome D) → Shows script history now → HasEnded script history now →
+      outcome.results.items ≡ results script history → IsHandedOut now outcome → IsPlayed script (handed_out g outcome) history
+  is-played whole script is history now outcome shows at read out = record {
+    play = record {
+      most = all_requests script;
+      played = at.played;
+      over = at.over;
+      journals = out.journals ∙ closed-journals script history now.bays.items shows.bays shows.bay_count;
+      results = read;
+      turns = ap (λ (t : _). t.items) out.turns ∙ shows.turns;
+      stores = subst (λ (stores : List D). StoresHold script history (map g.content stores)) (sym out.stores)
+          (closed-stores script history now.bays.items now.others.items shows.bays at.told shows.bay_count whole);
+    };
+    causes = λ host. causes_are_met script history is (shows.told at.told) host;
+    serial = λ form well. first_plays_are_serial script history (all_requests script) (is-first script form) at.played well at.over;
+    parity = λ form well. first_plays_keep_parity script history (all_requests script) (is-first script form) at.played well;
+    lost_blocks = λ form well. (first-report script history (all_requests script) (is-first script form) at.played well at.over).lost_blocks;
+  }
+
+  -- and its report
+  pub report-of : (script : Script) → IsScript script → (history : List Call) (now : World D g) → Shows script history now → IsGathered script history now.gathered →
+      report_in script now.gathered.results.items now.gathered.contents.items now.turns.items now.gathered.cells.items now.gathered.opened.items ≡ report_of script history
+  report-of script is history now shows at =
+      let told : List JobResult → List Content → List Turn → List (Option Cell) → List Bool → ReportOf = report_in script in
+      let reads = flat_map (λ (read : List Content). read) (contents script history) in
+      ap (λ (x : List JobResult). told x now.gathered.contents.items now.turns.items now.gathered.cells.items now.gathered.opened.items) at.results
+      ∙ ap (λ (x : List Content). told (results script history) x now.turns.items now.gathered.cells.items now.gathered.opened.items) at.contents
+      ∙ ap (λ (x : List Turn). told (results script history) reads x now.gathered.cells.items now.gathered.opened.items) shows.turns
+      ∙ ap (λ (x : List (Option Cell)). told (results script history) reads (turns_of history) x now.gathered.opened.items) at.cells
+      ∙ ap (λ (x : List Bool). told (results script history) reads (turns_of history) (cells_after script history) x) at.opened
+      ∙ report-is script history is (contents-whole script history is)
+
+  -- a store has failed in the final reading
+  pub unread-stops : Whole g → (script : Script) → IsScript script → (stores : List D) (history : List Call) (before now : World D g) (bay : BayNo) (outcome : Outcome D) → IsOverStores script stores before →
+      IsOverStores script stores now → Shows script history before → Shows script history now → outcome.status ≡ StoreFault bay → IsHandedOut now outcome → outcome.results.items ≡ results script history →
+      HasFailed bay.0 before.bays.items now.bays.items → (AllTell g script stores → HasEnded script history now) → IsUnplayed g script stores outcome
+  unread-stops whole script valid stores history before now bay outcome was over shown shows is out read failed ends =
+      let here : bay.0 < length now.bays.items = omega (arith, failed.inside, was.count, over.count) in
+      let below : bay.0 < script.n = omega (arith, here, over.count) in
+      let same : (d e : Bay D g) → (get_or before.bays.items bay.0 d).journal.items ≡ (get_or now.bays.items bay.0 e).journal.items =
+      (λ d e. (shown.bays bay.0 d failed.inside).entries ∙ sym (shows.bays bay.0 e here).entries) in
+      subst (HasStopped g script stores outcome) (sym is) (
+        opened script stores now outcome over out,
+        below,
+        inr (record {
+          failed = failed-by 1 script stores now outcome bay.0 over out here
+              (λ d e.
+              subst (λ (js : List Entry). RisesBy (count_faults js + 1) (g.faults (get_or stores bay.0 d)) (g.faults (get_or now.bays.items bay.0 e).store)) (same e e)
+              (rises-more (count_faults (get_or before.bays.items bay.0 e).journal.items) (g.faults (get_or stores bay.0 d)) (g.faults (get_or before.bays.items bay.0 e).store) (g.faults (get_or now.bays.items bay.0 e).store)
+              (was.over bay.0 d e failed.inside).faults (failed.risen e)));
+          played = λ tells. (history, is-played whole script valid history now outcome shows (ends tells) read out);
+        }),
+      )
+
+module _ {D : Type 0} (g : Ghosts D) where
   -- no world was made
-  pub refused-played : (script : Script) → IsFirstForm script → (sink : K) (stores : List D) (fault : WorldFault D) (outcome : Outcome D) →
-      IsRefusal g.size g.faults script.n script.rows stores fault → IsRefused fault outcome → IsScriptPlayed k g script sink sink stores outcome
-  refused-played script f sink stores (faults.TooFew back) outcome is out =
+  pub refused-stops : (script : Script) (stores : List D) (fault : WorldFault D) (outcome : Outcome D) →
+      IsRefusal g.size g.faults script.n script.rows stores fault → IsRefused script.n fault outcome → IsUnplayed g script stores outcome
+  refused-stops script stores (faults.TooFew back) outcome is out =
       let given : back.items ≡ stores = is.1 in
-      let same : outcome.stores.items ≡ stores = ap (λ (v : _). v.items) out.1 ∙ given in
-      let few : length back.items < 3 = omega (arith, is.0, three script f, ap length given) in
-      ends-so script sink sink stores outcome _ (out.2 few) (ap length given, refl, few) (same-back g.size g.faults 3 stores outcome.stores.items same) (λ told tells. tt) (refl, out.0)
-  refused-played script f sink stores (faults.TooSmall bay back) outcome is out =
-      let same : outcome.stores.items ≡ stores = ap (λ (v : _). v.items) out.1 ∙ is.1 in
-      ends-so script sink sink stores outcome _ out.2
-      (subst (λ (n : ℕ). IsFirstSmall g.size n 1 bay.0 stores) (three script f) (subst (λ (rows : ℕ). IsFirstSmall g.size script.n rows bay.0 stores) (one script f) is.0))
-      (same-back g.size g.faults 3 stores outcome.stores.items same) (λ told tells. tt) (refl, out.0)
-  refused-played script f sink stores (faults.NoMemory back) outcome is out =
+      let few : length back.items < script.n = omega (arith, is.0, ap length given) in
+      subst (HasStopped g script stores outcome) (sym (out.2 few))
+      (record { stores_back = ap (λ (v : _). v.items) out.1 ∙ given; empty = out.0 }, ap length given, refl, few)
+  refused-stops script stores (faults.TooSmall bay back) outcome is out =
+      subst (HasStopped g script stores outcome) (sym out.2) (record { stores_back = ap (λ (v : _). v.items) out.1 ∙ is.1; empty = out.0 }, is.0)
+  refused-stops script stores (faults.NoMemory back) outcome is out =
       let same : outcome.stores.items ≡ back.items = ap (λ (v : _). v.items) out.1 in
-      ends-so script sink sink stores outcome _ out.2 tt
-      (subst (λ (xs : List D). AreBack g.size g.faults 3 stores xs) (sym same) (three-back g.size g.faults script f stores back.items is.1)) (λ told tells. tt) (refl, out.0)
-  refused-played script f sink stores (faults.Fault bay back) outcome is out =
+      subst (HasStopped g script stores outcome) (sym out.2) (subst (λ (xs : List D). AreBack g.size g.faults script.n stores xs) (sym same) is.1, out.0)
+  refused-stops script stores (faults.Fault bay back) outcome is out =
       let same : outcome.stores.items ≡ back.items = ap (λ (v : _). v.items) out.1 in
-      ends-so script sink sink stores outcome _ out.2
-      (three-large g.size script f stores is.0, omega (arith, is.2, three script f), subst (λ (xs : List D). HasFailedAt g bay.0 stores xs) (sym same) is.3)
-      (subst (λ (xs : List D). AreBack g.size g.faults 3 stores xs) (sym same) (three-back g.size g.faults script f stores back.items is.1)) (λ told tells. tt) (refl, out.0)
+      let all : AreBack g.size g.faults script.n stores outcome.stores.items = subst (λ (xs : List D). AreBack g.size g.faults script.n stores xs) (sym same) is.1 in
+      let none : (at : ℕ) → count_faults (journal_of outcome at) ≡ 0 = no-journal outcome out.0 in
+      let enough = is.0.enough in
+      subst (HasStopped g script stores outcome) (sym out.2) (
+        record {
+          large = is.0;
+          stores_back = all;
+          faults = λ at below d.
+              subst (λ (n : ℕ). RisesBy (n + 0) (g.faults (get_or stores at d)) (g.faults (get_or outcome.stores.items at d))) (sym (none at))
+              (all.each at d (omega (arith, below, enough))).faults_least;
+        },
+        is.2,
+        inl (
+          out.0,
+          λ d.
+              subst (λ (n : ℕ). RisesBy (n + 1) (g.faults (get_or stores bay.0 d)) (g.faults (get_or outcome.stores.items bay.0 d))) (sym (none bay.0))
+              (subst (λ (xs : List D). Rises (g.faults (get_or stores bay.0 d)) (g.faults (get_or xs bay.0 d))) (sym same) (is.3 d)),
+        ),
+      ) where
+        no-journal : (outcome : Outcome D) → IsEmpty outcome → (at : ℕ) → count_faults (journal_of outcome at) ≡ 0
+        no-journal outcome empty at = ap (λ (js : List _). count_faults (get_or (map (λ journal. journal.items) js) at [])) empty.journals
 
-  -- a store has failed
-  stopped-played : (script : Script) → IsFirstForm script → (sink : K) (stores : List D) (now : World D g) (bay : BayNo) (outcome : Outcome D) → IsOverStores script stores now →
-      outcome.status ≡ StoreFault bay → outcome.stores.items ≡ stores_of now.bays.items ++ now.others.items → IsEmpty outcome → bay.0 < length now.bays.items →
-      HasFailedAt g bay.0 stores (stores_of now.bays.items ++ now.others.items) → IsScriptPlayed k g script sink sink stores outcome
-  stopped-played script f sink stores now bay outcome at is out empty inside failed =
-      ends-so script sink sink stores outcome (StoreFault bay) is
-      (three-large g.size script f stores at.large, omega (arith, inside, at.count, three script f), subst (λ (xs : List D). HasFailedAt g bay.0 stores xs) (sym out) failed)
-      (back-of-world script f stores now outcome at out) (λ told tells. tt) (refl, empty)
-
-  -- while the script was played
-  pub fault-played : (script : Script) → IsFirstForm script → (sink : K) (stores : List D) (now : World D g) (bay : BayNo) (outcome : Outcome D) → IsOverStores script stores now →
-      outcome.status ≡ StoreFault bay → outcome.stores.items ≡ stores_of now.bays.items ++ now.others.items → IsEmpty outcome → fault_bay 0 now.bays.items ≡ Some bay →
-      IsScriptPlayed k g script sink sink stores outcome
-  fault-played script f sink stores now bay outcome at is out empty found =
-      let r = fault-rises stores now.bays.items now.others.items bay at.over found in
-      stopped-played script f sink stores now bay outcome at is out empty r.0 r.1
-
-  -- or when it was read
-  pub unread-played : (script : Script) → IsFirstForm script → (sink : K) (stores : List D) (before now : World D g) (bay : BayNo) (outcome : Outcome D) → IsOverStores script stores before →
-      IsOverStores script stores now → outcome.status ≡ StoreFault bay → outcome.stores.items ≡ stores_of now.bays.items ++ now.others.items → IsEmpty outcome →
-      HasFailed bay.0 before.bays.items now.bays.items → IsScriptPlayed k g script sink sink stores outcome
-  unread-played script f sink stores before now bay outcome was at is out empty failed =
-      stopped-played script f sink stores now bay outcome at is out empty (omega (arith, failed.inside, was.count, at.count))
-      (failed-rises stores before.bays.items now.bays.items now.others.items bay.0 was.over failed (at.count ∙ sym was.count))
+module _ {K D : Type 0} (k : SinkGhosts K) (g : Ghosts D) where
+  -- an end before the report
+  pub stopped-played : (script : Script) (sink : K) (stores : List D) (outcome : Outcome D) (print : ReportOf → List ℕ) (status : Status) → HasStopped g script stores outcome status →
+      HasPlayed k g print script sink sink stores outcome status
+  stopped-played script sink stores outcome print Done h = absurd h
+  stopped-played script sink stores outcome print WriteFault h = absurd h
+  stopped-played script sink stores outcome print Words h = absurd h
+  stopped-played script sink stores outcome print ReadFault h = absurd h
+  stopped-played script sink stores outcome print TooLong h = absurd h
+  stopped-played script sink stores outcome print (BadScript line kind) h = absurd h
+  stopped-played script sink stores outcome print (TooMuch weight) h = absurd h
+  stopped-played script sink stores outcome print (TooFewStores have need) h = (refl, h)
+  stopped-played script sink stores outcome print (TooSmall bay) h = (refl, h)
+  stopped-played script sink stores outcome print (StoreFault bay) h = (refl, h)
+  stopped-played script sink stores outcome print Memory h = (refl, h)
+  stopped-played script sink stores outcome print NotYet h = absurd h
 
   -- the report was printed, or a part of it
-  pub reported-played : Whole g → (script : Script) → IsFirstForm script → (sink after : K) (stores : List D) (now : World D g) (outcome : Outcome D) → IsOverStores script stores now →
-      (EachAt (λ at store. at < 3 → IsTrue (g.tells store)) stores → (history : List Call) × IsAtEnd script history now) → IsHandedOut now outcome →
-      HasPrinted k (report_text (report_in script now.gathered.results.items now.gathered.contents.items now.turns.items now.gathered.cells.items now.gathered.opened.items)) sink after outcome.status →
-      IsScriptPlayed k g script sink after stores outcome
-  reported-played whole script f sink after stores now outcome at ends out printed = go outcome.status refl printed
+  pub reported-played : Whole g → (script : Script) → IsScript script → (sink after : K) (stores : List D) (now : World D g) (outcome : Outcome D) (print : ReportOf → List ℕ) →
+      IsFinished g script stores now → IsHandedOut now outcome →
+      HasPrinted k (print (report_in script now.gathered.results.items now.gathered.contents.items now.turns.items now.gathered.cells.items now.gathered.opened.items)) sink after outcome.status →
+      HasPlayed k g print script sink after stores outcome outcome.status
+  reported-played whole script is sink after stores now outcome print f out printed = go outcome.status printed
     where
-      text : List ℕ
-      text = report_text (report_in script now.gathered.results.items now.gathered.contents.items now.turns.items now.gathered.cells.items now.gathered.opened.items)
+      report : ReportOf
+      report = report_in script now.gathered.results.items now.gathered.contents.items now.turns.items now.gathered.cells.items now.gathered.opened.items
 
-      played-by : (history : List Call) → IsAtEnd script history now → IsPlayed g (script_text script) outcome (report_of script history)
-      played-by history end = record { script = script; form = f; input = refl; headline = headline-of whole script f history now outcome end out }
+      open-now : IsOpened g script stores outcome
+      open-now = opened script stores now outcome (over-finished script stores now f) out
 
-      go : (status : Status) → outcome.status ≡ status → HasPrinted k text sink after status → IsScriptPlayed k g script sink after stores outcome
-      go Done is print =
-          ends-so script sink after stores outcome Done is (three-large g.size script f stores at.large) (back-of-world script f stores now outcome at out.stores)
-          (λ told tells.
-          let end = ends tells in
-          (report_of script end.0, played-by end.0 end.1, print told ∙ ap (λ (r : ReportOf). k.written sink ++ report_text r) (report-of script f end.0 now end.1))) tt
-      go WriteFault is print =
-          ends-so script sink after stores outcome WriteFault is (three-large g.size script f stores at.large, print.0) (back-of-world script f stores now outcome at out.stores)
-          (λ told tells.
-          let end = ends tells in
-          (report_of script end.0, played-by end.0 end.1, subst (λ (r : ReportOf). AppendsPart (k.written sink) (k.written after) (report_text r)) (report-of script f end.0 now end.1) (print.1 told))) tt
-      go Words is print = absurd print
-      go ReadFault is print = absurd print
-      go TooLong is print = absurd print
-      go (BadScript line kind) is print = absurd print
-      go (TooMuch total) is print = absurd print
-      go (TooFewStores have need) is print = absurd print
-      go (TooSmall bay) is print = absurd print
-      go (StoreFault bay) is print = absurd print
-      go Memory is print = absurd print
-      go NotYet is print = absurd print
+      told-of : AllTell g script stores → IsReported script (handed_out g outcome) report
+      told-of tells =
+          let end = f.ended tells in
+          record {
+            history = f.history;
+            input_output = report-of script is f.history now f.shows end.1;
+            played = is-played whole script is f.history now outcome f.shows end.0 (ap (λ (r : _). r.items) out.results ∙ end.1.results) out;
+          }
 
-module _ {S K D : Type 0} {s : SourceGhosts S} {k : SinkGhosts K} {g : Ghosts D} where
+      go : (status : Status) → HasPrinted k (print report) sink after status → HasPlayed k g print script sink after stores outcome status
+      go Done p = (open-now, λ tells. (report, told-of tells, p))
+      go WriteFault p = (open-now, p.0, λ tells. (report, told-of tells, p.1))
+      go Words p = absurd p
+      go ReadFault p = absurd p
+      go TooLong p = absurd p
+      go (BadScript line kind) p = absurd p
+      go (TooMuch weight) p = absurd p
+      go (TooFewStores have need) p = absurd p
+      go (TooSmall bay) p = absurd p
+      go (StoreFault bay) p = absurd p
+      go Memory p = absurd p
+      go NotYet p = absurd p
+
+module _ {K D : Type 0} (k : SinkGhosts K) (g : Ghosts D) where
+  -- the playing of a load
+  pub loaded : (n : ℕ) (script : Script) (sink after : K) (stores : List D) (outcome : Outcome D) → script ≡ load_script n →
+      HasPlayed k g (summary_text n) script sink after stores outcome outcome.status → IsLoad k g n sink after stores outcome
+  loaded n script sink after stores outcome is p =
+      record { loaded = go outcome.status (subst (λ (s : Script). HasPlayed k g (summary_text n) s sink after stores outcome outcome.status) is p) }
+    where
+      go : (status : Status) → HasPlayed k g (summary_text n) (load_script n) sink after stores outcome status → HasLoaded k g n sink after stores outcome status
+      go Done p = p
+      go WriteFault p = p
+      go Words p = p
+      go ReadFault p = p
+      go TooLong p = p
+      go (BadScript line kind) p = p
+      go (TooMuch weight) p = p
+      go (TooFewStores have need) p = p
+      go (TooSmall bay) p = p
+      go (StoreFault bay) p = p
+      go Memory p = inr p
+      go NotYet p = p
+
+module _ {S K D : Type 0} (s : SourceGhosts S) (k : SinkGhosts K) (g : Ghosts D) where
   -- an end before any play
   pub early-call : (source later : S) (sink : K) (stores : List D) (outcome : Outcome D) (status : Status) → outcome.status ≡ status → outcome.stores.items ≡ stores → IsEmpty outcome →
-      IsCause s k g source later sink sink stores outcome.stores.items status → HasPlayed g (s.left source) (k.written sink) (k.written sink) outcome status →
-      (s.tells source ≡ true → HasRead (s.left source) (s.left later) status) → (IsEmpty outcome → IsSilent sink sink outcome status) → IsCall s k g source later sink sink stores outcome
-  early-call source later sink stores outcome status is same empty cause played input silent = record {
-    cause = subst (λ (x : Status). IsCause s k g source later sink sink stores outcome.stores.items x) (sym is) cause;
-    stores_back = same-back g.size g.faults 3 stores outcome.stores.items same;
-    input = λ told. subst (λ (x : Status). HasRead (s.left source) (s.left later) x) (sym is) (input told);
-    played = λ told tells all. subst (λ (x : Status). HasPlayed g (s.left source) (k.written sink) (k.written sink) outcome x) (sym is) played;
-    silent = subst (λ (x : Status). IsSilent sink sink outcome x) (sym is) (silent empty);
+      (IsIdle sink sink stores outcome → HasCalled s k g source later sink sink stores outcome status) → IsCall s k g source later sink sink stores outcome
+  early-call source later sink stores outcome status is same empty called = record {
+    called = subst (HasCalled s k g source later sink sink stores outcome) (sym is)
+        (called (record { silent = refl; untouched = record { stores_back = same; empty = empty } }));
   }
 
   -- the playing of the script that was read
-  pub played-call : (script : Script) → IsFirstForm script → (bytes : List ℕ) (source later : S) (sink after : K) (stores : List D) (outcome : Outcome D) →
-      (s.tells source ≡ true → (bytes ≡ s.left source) × (s.left later ≡ [])) → bytes ≡ script_text script → IsShort bytes →
-      IsScriptPlayed k g script sink after stores outcome → IsCall s k g source later sink after stores outcome
-  played-call script f bytes source later sink after stores outcome all text short p = record {
-    cause = cause-of outcome.status p.cause;
-    stores_back = p.stores_back;
-    input = λ told. read-of told outcome.status p.cause;
-    played = λ told tells every. subst (λ (x : List ℕ). HasPlayed g x (k.written sink) (k.written after) outcome outcome.status) (sym text ∙ (all told).0) (p.played tells every);
-    silent = p.silent;
-  }
+  pub played-call : (script : Script) (source later : S) (sink after : K) (stores : List D) (outcome : Outcome D) → IsRead s source later script → total script ≤ 2 ^ 20 →
+      HasPlayed k g report_text script sink after stores outcome outcome.status → IsCall s k g source later sink after stores outcome
+  played-call script source later sink after stores outcome read few p = record { called = go outcome.status p }
     where
-      cause-of : (status : Status) → IsPlayCause k g sink after stores outcome.stores.items status → IsCause s k g source later sink after stores outcome.stores.items status
-      cause-of Done c = c
-      cause-of WriteFault c = c
-      cause-of Words c = c
-      cause-of ReadFault c = absurd c
-      cause-of TooLong c = absurd c
-      cause-of (BadScript line kind) c = absurd c
-      cause-of (TooMuch total) c = c
-      cause-of (TooFewStores have need) c = c
-      cause-of (TooSmall bay) c = c
-      cause-of (StoreFault bay) c = c
-      cause-of Memory c = c
-      cause-of NotYet c = absurd c
-
-      is-input : s.tells source ≡ true → IsInput (s.left source)
-      is-input told =
-          let same : bytes ≡ s.left source = (all told).0 in
-          record { short = subst IsShort same short; first = (script, f, sym same ∙ text) }
-
-      read-of : s.tells source ≡ true → (status : Status) → IsPlayCause k g sink after stores outcome.stores.items status → HasRead (s.left source) (s.left later) status
-      read-of told Done c = (is-input told, (all told).1)
-      read-of told WriteFault c = (is-input told, (all told).1)
-      read-of told Words c = absurd c
-      read-of told ReadFault c = absurd c
-      read-of told TooLong c = absurd c
-      read-of told (BadScript line kind) c = absurd c
-      read-of told (TooMuch total) c = absurd c
-      read-of told (TooFewStores have need) c = (is-input told, (all told).1)
-      read-of told (TooSmall bay) c = (is-input told, (all told).1)
-      read-of told (StoreFault bay) c = (is-input told, (all told).1)
-      read-of told Memory c = tt
-      read-of told NotYet c = absurd c
-
--- the script that was read is of the first form where its text is that of one
-pub first-read : (text bytes : List ℕ) (read : Script) → text ≡ bytes → IsFirstText text → ((script : Script) → IsScript script → bytes ≡ script_text script → read ≡ script) → IsFirstForm read
-first-read text bytes read same (script, form, is) one =
-    subst IsFirstForm (sym (one script (first_is_script script form) (sym same ∙ is))) form
+      go : (status : Status) → HasPlayed k g report_text script sink after stores outcome status → HasCalled s k g source later sink after stores outcome status
+      go Done p = (script, read, few, p)
+      go WriteFault p = (script, read, few, p)
+      go Words p = (script, read, few, p)
+      go ReadFault p = absurd p.1
+      go TooLong p = absurd p.1
+      go (BadScript line kind) p = absurd p.1
+      go (TooMuch weight) p = absurd p.1
+      go (TooFewStores have need) p = (script, read, few, p)
+      go (TooSmall bay) p = (script, read, few, p)
+      go (StoreFault bay) p = (script, read, few, p)
+      go Memory p = inr (script, read, p)
+      go NotYet p = (script, read, few, p)

@@ -1,43 +1,31 @@
 -- A call of the program: what it has read, played and printed, and why it has ended so.
-use Rattle.std.specs.Prelude.{◌≡◌, ◌⊎◌, ℕ, ◌+◌, ◌^◌, ◌<◌, ◌≤◌, ◌++◌, true, IsTrue, List, [], Option, Some, None, length, map, slice_index_or}
+use Rattle.std.specs.Prelude.{◌≡◌, ◌⊎◌, ℕ, ◌+◌, ◌^◌, ◌<◌, ◌≤◌, ◌++◌, true, false, IsTrue, List, [], Option, Some, None, length, map, slice_index_or}
+use Rattle.raid_base.specs.declared.messages.Call.{Call}
+use Rattle.raid_base.specs.declared.messages.Entry.{Entry}
 use Rattle.raid_base.specs.declared.status.Status.{Status}
 use Rattle.raid_base.specs.declared.status.Status.TheVariants.{Done, Words, ReadFault, TooLong, BadScript, TooMuch, TooFewStores, TooSmall, StoreFault, WriteFault, Memory, NotYet}
 use Rattle.raid_base.specs.declared.streams.Source.{Ghosts as SourceGhosts}
 use Rattle.raid_base.specs.declared.streams.Sink.{Ghosts as SinkGhosts}
-use Rattle.raid_base.specs.Counts.{Rises}
+use Rattle.raid_base.specs.Counts.{Rises, RisesBy}
 use Rattle.raid_base.specs.Streams.{AppendsPart}
 use Rattle.block_store.specs.declared.store.Store.{Ghosts as StoreGhosts}
+use Rattle.bay_device.specs.Handling.{count_faults}
 use Rattle.script_text.specs.Script.{Script}
 use Rattle.script_text.specs.Text.{script_text}
-use Rattle.script_text.specs.First.{IsFirstForm, IsFirstText}
+use Rattle.script_text.specs.First.{IsFirstForm}
 use Rattle.script_text.specs.Faults.{fault_in}
 use Rattle.script_text.specs.Ranges.{IsScript}
+use Rattle.script_text.specs.Weights.{total}
 use Rattle.report_text.specs.Report.{ReportOf, report_text}
+use Rattle.load_maker.specs.Load.{load_script}
+use Rattle.load_maker.specs.Summary.{summary_text}
 use Rattle.schedule_play.specs.World.{EachAt}
-use Rattle.schedule_play.specs.declared.making.WorldFault.{WorldFault}
-use Rattle.schedule_play.specs.declared.making.WorldFault.TheVariants as faults
-use Rattle.schedule_play.specs.declared.making.WorldFault.TheVariants.{TooFew, NoMemory, Fault}
 use Rattle.schedule_play.specs.Making.{AreBack, AreLarge, IsFirstSmall}
-use Rattle.schedule_play.specs.Headline.{Headline, Outcome as PlayOutcome}
+use Rattle.schedule_play.specs.FirstForm.{has_fault}
+use Rattle.schedule_play.specs.Headline.{Outcome as PlayOutcome, IsPlayOf, HasCauses, IsSerialPlay, KeepsParity, NamesLostRightly, report_of}
 use Rattle.array_cli.specs.declared.run.Outcome.{Outcome}
 use Rattle.array_cli.specs.declared.words.Command.{Command}
-
--- an input is read where it has 16 MiB at most
-abbrev pub IsShort : List ℕ → Type 0
-IsShort bytes = length bytes ≤ 2 ^ 24
-
--- an input that is played: the text of a script of the first form
-pub record IsInput (bytes : List ℕ) : Type 0 where
-  pub short : IsShort bytes
-  pub first : IsFirstText bytes
-
--- one that isn't played yet: the text of another script
-pub record IsOtherInput (bytes : List ℕ) : Type 0 where
-  pub short : IsShort bytes
-  pub script : Script
-  pub is : IsScript script
-  pub text : bytes ≡ script_text script
-  pub other : IsFirstText bytes → ⊥
+use Rattle.array_cli.specs.declared.words.Command.TheVariants.{Sim, Run, Load}
 
 -- what a call hands out, over stores that tell their content
 abbrev pub handed_out : {D : Type 0} → StoreGhosts D → Outcome D → PlayOutcome
@@ -48,12 +36,20 @@ handed_out g outcome = record {
   stores = map g.content outcome.stores.items;
 }
 
--- the script of this text was played, and this is its report
-pub record IsPlayed {D : Type 0} (g : StoreGhosts D) (text : List ℕ) (outcome : Outcome D) (report : ReportOf) : Type 0 where
-  pub script : Script
-  pub form : IsFirstForm script
-  pub input : text ≡ script_text script
-  pub headline : Headline script (handed_out g outcome) report
+-- The play of a script: what is handed out is the play's, and each result that gives a cause has it. For a script of the first
+-- form whose stores have not failed it is serial, keeps the parity, and names lost blocks rightly
+pub record IsPlayed (script : Script) (outcome : PlayOutcome) (history : List Call) : Type 0 where
+  pub play : IsPlayOf script history outcome
+  pub causes : HasCauses script history
+  pub serial : IsFirstForm script → has_fault history ≡ false → IsSerialPlay script history
+  pub parity : IsFirstForm script → has_fault history ≡ false → KeepsParity script history
+  pub lost_blocks : IsFirstForm script → has_fault history ≡ false → NamesLostRightly script history
+
+-- and its report
+pub record IsReported (script : Script) (outcome : PlayOutcome) (report : ReportOf) : Type 0 where
+  pub history : List Call
+  pub input_output : report ≡ report_of script history
+  pub played : IsPlayed script outcome history
 
 -- neither journals nor results nor turns
 pub record IsEmpty {D : Type 0} (outcome : Outcome D) : Type 0 where
@@ -61,85 +57,115 @@ pub record IsEmpty {D : Type 0} (outcome : Outcome D) : Type 0 where
   pub results : outcome.results.items ≡ []
   pub turns : outcome.turns.items ≡ []
 
--- of the stores that were handed in and those that came back, the one at this place has failed
-abbrev pub HasFailedAt : {D : Type 0} → StoreGhosts D → ℕ → List D → List D → Type 0
-HasFailedAt {D} g at stores back = (d : D) → Rises (g.faults (slice_index_or stores at d)) (g.faults (slice_index_or back at d))
+-- the stores are as they were, and nothing else is handed out
+pub record IsUntouched {D : Type 0} (stores : List D) (outcome : Outcome D) : Type 0 where
+  pub stores_back : outcome.stores.items ≡ stores
+  pub empty : IsEmpty outcome
 
--- how the printing of a text has ended
-abbrev pub HasPrinted : {K : Type 0} → SinkGhosts K → List ℕ → K → K → Status → Type 0
-HasPrinted k text sink after Done = k.tells sink ≡ true → k.written after ≡ k.written sink ++ text
-HasPrinted k text sink after WriteFault = Rises (k.faults sink) (k.faults after) × (k.tells sink ≡ true → AppendsPart (k.written sink) (k.written after) text)
-HasPrinted k text sink after _ = ⊥
+-- and nothing was printed
+pub record IsIdle {K D : Type 0} (sink after : K) (stores : List D) (outcome : Outcome D) : Type 0 where
+  pub silent : after ≡ sink
+  pub untouched : IsUntouched stores outcome
 
--- why no world was made, and what comes back
-abbrev pub IsRefused : {D : Type 0} → WorldFault D → Outcome D → Type 0
-IsRefused (TooFew stores) outcome = IsEmpty outcome × (outcome.stores ≡ stores) × (length stores.items < 3 → outcome.status ≡ TooFewStores (length stores.items) 3)
-IsRefused (faults.TooSmall bay stores) outcome = IsEmpty outcome × (outcome.stores ≡ stores) × (outcome.status ≡ TooSmall bay)
-IsRefused (NoMemory stores) outcome = IsEmpty outcome × (outcome.stores ≡ stores) × (outcome.status ≡ Memory)
-IsRefused (Fault bay stores) outcome = IsEmpty outcome × (outcome.stores ≡ stores) × (outcome.status ≡ StoreFault bay)
+-- each store of a device tells its content
+abbrev pub AllTell : {D : Type 0} → StoreGhosts D → Script → List D → Type 0
+AllTell g script stores = EachAt (λ at store. at < script.n → IsTrue (g.tells store)) stores
 
--- Why the playing of a script of the first form, on 3 devices of one row, has ended so: a fault only where its count rose, and
--- a refusal of the stores exactly where it is due
-abbrev pub IsPlayCause : {K D : Type 0} → SinkGhosts K → StoreGhosts D → K → K → List D → List D → Status → Type 0
-IsPlayCause k g sink after stores back Done = AreLarge g.size 3 1 stores
-IsPlayCause k g sink after stores back WriteFault = AreLarge g.size 3 1 stores × Rises (k.faults sink) (k.faults after)
-IsPlayCause k g sink after stores back (TooFewStores have need) = (have ≡ length stores) × (need ≡ 3) × (have < need)
-IsPlayCause k g sink after stores back (TooSmall bay) = IsFirstSmall g.size 3 1 bay.0 stores
-IsPlayCause k g sink after stores back (StoreFault bay) = AreLarge g.size 3 1 stores × (bay.0 < 3) × HasFailedAt g bay.0 stores back
-IsPlayCause k g sink after stores back Memory = Unit {0}
-IsPlayCause k g sink after stores back _ = ⊥
+-- the journal of a bay that is handed out
+abbrev pub journal_of : {D : Type 0} → Outcome D → ℕ → List Entry
+journal_of outcome at = slice_index_or (map (λ journal. journal.items) outcome.journals.items) at []
 
--- and the same of a call
-abbrev pub IsCause : {S K D : Type 0} → SourceGhosts S → SinkGhosts K → StoreGhosts D → S → S → K → K → List D → List D → Status → Type 0
-IsCause s k g source later sink after stores back ReadFault = Rises (s.faults source) (s.faults later)
-IsCause s k g source later sink after stores back TooLong = Unit {0}
-IsCause s k g source later sink after stores back (BadScript line kind) = Unit {0}
-IsCause s k g source later sink after stores back NotYet = Unit {0}
-IsCause s k g source later sink after stores back status = IsPlayCause k g sink after stores back status
+-- since it was handed in, the count of the store at this place has risen by the Faults in its journal, and so many more
+abbrev pub HasFailedBy : {D : Type 0} → StoreGhosts D → ℕ → ℕ → List D → Outcome D → Type 0
+HasFailedBy {D} g more at stores outcome =
+    (d : D) → RisesBy (count_faults (journal_of outcome at) + more) (g.faults (slice_index_or stores at d)) (g.faults (slice_index_or outcome.stores.items at d))
 
--- What a call has read: more than 16 MiB; or all, which is no script's text, for the first line at fault; or all, which is
--- a script's text that is not played yet, or one that is
-abbrev pub HasRead : List ℕ → List ℕ → Status → Type 0
-HasRead text left TooLong = length left + 2 ^ 24 < length text
-HasRead text left (BadScript line kind) = IsShort text × (fault_in text ≡ Some (line, kind)) × (left ≡ [])
-HasRead text left NotYet = IsOtherInput text × (left ≡ [])
-HasRead text left Done = IsInput text × (left ≡ [])
-HasRead text left (TooFewStores have need) = IsInput text × (left ≡ [])
-HasRead text left (TooSmall bay) = IsInput text × (left ≡ [])
-HasRead text left (StoreFault bay) = IsInput text × (left ≡ [])
-HasRead text left WriteFault = IsInput text × (left ≡ [])
-HasRead text left _ = Unit {0}
+-- the stores were enough and large enough. They come back in order, and no bay has answered Fault more often than its store has failed
+pub record IsOpened {D : Type 0} (g : StoreGhosts D) (script : Script) (stores : List D) (outcome : Outcome D) : Type 0 where
+  pub large : AreLarge g.size script.n script.rows stores
+  pub stores_back : AreBack g.size g.faults script.n stores outcome.stores.items
+  pub faults : (at : ℕ) → at < script.n → HasFailedBy g 0 at stores outcome
 
--- What was played and printed: the report whole at Done, and a first part of it where the sink has failed
-abbrev pub HasPlayed : {D : Type 0} → StoreGhosts D → List ℕ → List ℕ → List ℕ → Outcome D → Status → Type 0
-HasPlayed g text written later outcome Done = (report : ReportOf) × IsPlayed g text outcome report × (later ≡ written ++ report_text report)
-HasPlayed g text written later outcome WriteFault = (report : ReportOf) × IsPlayed g text outcome report × AppendsPart written later (report_text report)
-HasPlayed g text written later outcome _ = Unit {0}
+-- the final reading met a store that fails: all but the report is there
+pub record IsUnread {D : Type 0} (g : StoreGhosts D) (script : Script) (at : ℕ) (stores : List D) (outcome : Outcome D) : Type 0 where
+  pub failed : HasFailedBy g 1 at stores outcome
+  pub played : AllTell g script stores → (history : List Call) × IsPlayed script (handed_out g outcome) history
 
--- and at each other end nothing
-abbrev pub IsSilent : {K D : Type 0} → K → K → Outcome D → Status → Type 0
-IsSilent sink after outcome Done = Unit {0}
-IsSilent sink after outcome WriteFault = Unit {0}
-IsSilent sink after outcome _ = (after ≡ sink) × IsEmpty outcome
+-- The playing of a script over some stores that has come to no report, by its status
+abbrev pub HasStopped : {D : Type 0} → StoreGhosts D → Script → List D → Outcome D → Status → Type 0
+HasStopped g script stores outcome (TooFewStores have need) = IsUntouched stores outcome × (have ≡ length stores) × (need ≡ script.n) × (have < need)
+HasStopped g script stores outcome (TooSmall bay) = IsUntouched stores outcome × IsFirstSmall g.size script.n script.rows bay.0 stores
+HasStopped g script stores outcome (StoreFault bay) =
+    IsOpened g script stores outcome × (bay.0 < script.n)
+    × ((IsEmpty outcome × HasFailedBy g 1 bay.0 stores outcome) ⊎ IsUnread g script bay.0 stores outcome)
+HasStopped g script stores outcome Memory = AreBack g.size g.faults script.n stores outcome.stores.items × IsEmpty outcome
+HasStopped g script stores outcome _ = ⊥
 
--- The playing of a script of the first form over some stores, and its report
-pub record IsScriptPlayed {K D : Type 0} (k : SinkGhosts K) (g : StoreGhosts D) (script : Script) (sink after : K) (stores : List D) (outcome : Outcome D) : Type 0 where
-  pub cause : IsPlayCause k g sink after stores outcome.stores.items outcome.status
-  pub stores_back : AreBack g.size g.faults 3 stores outcome.stores.items
-  pub played : k.tells sink ≡ true → EachAt (λ at store. at < 3 → IsTrue (g.tells store)) stores →
-      HasPlayed g (script_text script) (k.written sink) (k.written after) outcome outcome.status
-  pub silent : IsSilent sink after outcome outcome.status
+-- The playing of a script over some stores, and what was printed of its report
+abbrev pub HasPlayed : {K D : Type 0} → SinkGhosts K → StoreGhosts D → (ReportOf → List ℕ) → Script → K → K → List D → Outcome D → Status → Type 0
+HasPlayed k g print script sink after stores outcome Done =
+    IsOpened g script stores outcome
+    × (AllTell g script stores → (report : ReportOf) × IsReported script (handed_out g outcome) report
+    × (k.tells sink ≡ true → k.written after ≡ k.written sink ++ print report))
+HasPlayed k g print script sink after stores outcome WriteFault =
+    IsOpened g script stores outcome × Rises (k.faults sink) (k.faults after)
+    × (AllTell g script stores → (report : ReportOf) × IsReported script (handed_out g outcome) report
+    × (k.tells sink ≡ true → AppendsPart (k.written sink) (k.written after) (print report)))
+HasPlayed k g print script sink after stores outcome status = (after ≡ sink) × HasStopped g script stores outcome status
 
--- A call with a source, a sink and some stores, as they were before and are after it
+-- an input is read where it has 16 MiB at most
+abbrev pub IsShort : List ℕ → Type 0
+IsShort bytes = length bytes ≤ 2 ^ 24
+
+-- a source that held more than that, and one of which all was read, so many bytes being left
+abbrev pub IsTooLong : List ℕ → List ℕ → Type 0
+IsTooLong text left = length left + 2 ^ 24 < length text
+
+abbrev pub IsReadWhole : List ℕ → List ℕ → Type 0
+IsReadWhole text left = IsShort text × (left ≡ [])
+
+-- the script that was read: where the source tells, all that it held is its text
+pub record IsRead {S : Type 0} (s : SourceGhosts S) (source later : S) (script : Script) : Type 0 where
+  pub is : IsScript script
+  pub whole : s.tells source ≡ true → IsReadWhole (s.left source) (s.left later)
+  pub text : s.tells source ≡ true → s.left source ≡ script_text script
+
+-- A call with a source, a sink and some stores, as they were before and are after it, by its status
+abbrev pub HasCalled : {S K D : Type 0} → SourceGhosts S → SinkGhosts K → StoreGhosts D → S → S → K → K → List D → Outcome D → Status → Type 0
+HasCalled s k g source later sink after stores outcome ReadFault = IsIdle sink after stores outcome × Rises (s.faults source) (s.faults later)
+HasCalled s k g source later sink after stores outcome TooLong =
+    IsIdle sink after stores outcome × (s.tells source ≡ true → IsTooLong (s.left source) (s.left later))
+HasCalled s k g source later sink after stores outcome (BadScript line kind) =
+    IsIdle sink after stores outcome
+    × (s.tells source ≡ true → IsReadWhole (s.left source) (s.left later) × (fault_in (s.left source) ≡ Some (line, kind)))
+HasCalled s k g source later sink after stores outcome (TooMuch weight) =
+    IsIdle sink after stores outcome × (script : Script) × IsRead s source later script × (weight ≡ total script) × (2 ^ 20 < total script)
+HasCalled s k g source later sink after stores outcome Memory =
+    IsIdle sink after stores outcome
+    ⊎ ((script : Script) × IsRead s source later script × HasPlayed k g report_text script sink after stores outcome Memory)
+HasCalled s k g source later sink after stores outcome status =
+    (script : Script) × IsRead s source later script × (total script ≤ 2 ^ 20) × HasPlayed k g report_text script sink after stores outcome status
+
 pub record IsCall {S K D : Type 0} (s : SourceGhosts S) (k : SinkGhosts K) (g : StoreGhosts D) (source later : S) (sink after : K) (stores : List D) (outcome : Outcome D) : Type 0 where
-  pub cause : IsCause s k g source later sink after stores outcome.stores.items outcome.status
-  pub stores_back : AreBack g.size g.faults 3 stores outcome.stores.items
-  pub input : s.tells source ≡ true → HasRead (s.left source) (s.left later) outcome.status
-  pub played : s.tells source ≡ true → k.tells sink ≡ true → EachAt (λ at store. at < 3 → IsTrue (g.tells store)) stores →
-      HasPlayed g (s.left source) (k.written sink) (k.written after) outcome outcome.status
-  pub silent : IsSilent sink after outcome outcome.status
+  pub called : HasCalled s k g source later sink after stores outcome outcome.status
 
--- the status of words that ask for no call: there is no such command, or it is not done yet
+-- The load of n jobs over some stores, by its status: nothing is read, and its summary is printed
+abbrev pub HasLoaded : {K D : Type 0} → SinkGhosts K → StoreGhosts D → ℕ → K → K → List D → Outcome D → Status → Type 0
+HasLoaded k g n sink after stores outcome Memory =
+    IsIdle sink after stores outcome ⊎ HasPlayed k g (summary_text n) (load_script n) sink after stores outcome Memory
+HasLoaded k g n sink after stores outcome status = HasPlayed k g (summary_text n) (load_script n) sink after stores outcome status
+
+pub record IsLoad {K D : Type 0} (k : SinkGhosts K) (g : StoreGhosts D) (n : ℕ) (sink after : K) (stores : List D) (outcome : Outcome D) : Type 0 where
+  pub loaded : HasLoaded k g n sink after stores outcome outcome.status
+
+-- words that ask for no call: there is no such command, or it is not done yet
+abbrev pub IsNoCallFor : Option Command → Type 0
+IsNoCallFor None = Unit {0}
+IsNoCallFor (Some Sim) = ⊥
+IsNoCallFor (Some Run) = Unit {0}
+IsNoCallFor (Some (Load n)) = ⊥
+
+-- and the status of these words
 abbrev pub status_without_call : Option Command → Status
 status_without_call None = Words
 status_without_call (Some command) = NotYet

@@ -2,11 +2,17 @@
 #![tactic(auto)]
 
 pub mod input;
+#[cfg(test)]
+mod plays;
+#[cfg(test)]
+mod refusals;
 pub mod run;
+#[cfg(test)]
+mod serial_plays;
 #[cfg(test)]
 mod tests;
 pub mod words;
 
 pub use input::{InputFault, read_all};
-pub use run::{Outcome, array, sim_call};
+pub use run::{Outcome, array, load_call, sim_call};
 pub use words::{Command, exit_number, read_command};

@@ -1,27 +1,32 @@
 //! A run of a script from its text to its report.
-ghost use Rattle.std.specs.Prelude.{◌≡◌, ◌≢◌, ◌++◌, Some, map, string_bytes};
-ghost use Rattle.schedule_play.specs.Gathering.{IsClosable};
-ghost use Rattle.schedule_play.specs.Making.{stores_of};
-ghost use Rattle.script_text.specs.First.{IsFirstForm};
+ghost use Rattle.std.specs.Prelude.{◌≡◌, ℕ, ◌++◌, ◌<◌, ◌≤◌, ◌^◌, Some, map, length, string_bytes, IfOk, IfErr};
+ghost use Rattle.script_text.specs.Ranges.{IsScript, all_jobs};
+ghost use Rattle.script_text.specs.Weights.{total};
 ghost use Rattle.report_text.specs.Report.{report_text};
 ghost use Rattle.report_text.specs.Views.{report_in};
-ghost use Rattle.raid_base.specs.declared.status.Status.TheVariants.{StoreFault};
+ghost use Rattle.load_maker.specs.Summary.{summary_text};
+ghost use Rattle.schedule_play.specs.Gathering.{IsClosable};
+ghost use Rattle.schedule_play.specs.Making.{stores_of};
 ghost use Rattle.array_cli.specs.Commands.{command_of};
-ghost use Rattle.array_cli.specs.Runs.{HasPrinted, IsCall, IsEmpty, IsNoCall, IsRefused, IsScriptPlayed};
-ghost use Rattle.array_cli.specs.declared.words.Command.TheVariants.{Sim};
+ghost use Rattle.array_cli.specs.Runs.{HasPlayed, IsCall, IsEmpty, IsLoad, IsNoCall, IsNoCallFor};
+ghost use Rattle.array_cli.specs.Parts.{HasPrinted, IsFinished, IsRefused, IsUnplayed, status_of};
+ghost use Rattle.array_cli.specs.declared.words.Command.TheVariants.{Sim, Load};
 
 use crate::input::{InputFault, read_all};
 use crate::words::{Command, read_command};
 use block_store::Store;
-use raid_base::{BayNo, Entry, JobResult, NoMemory, Sink, Source, Status, Turn};
+use load_maker::{make_load, write_summary};
+use raid_base::{Entry, Failed, JobResult, NoMemory, Sink, Source, Status, Turn};
 use report_text::write_report;
-use schedule_play::faults::fault_bay;
 use schedule_play::{World, WorldFault};
-use script_text::{Script, ScriptFault, is_first, read_script};
+use script_text::{Script, ScriptFault, read_script, total};
 use std::alloc::Global;
 
 /// How many bytes a script may have.
 const MOST_BYTES: usize = 1 << 24;
+
+/// How much the jobs of a script may weigh together.
+const MOST_WEIGHT: u64 = 1 << 20;
 
 /// What a call hands out: how it has ended, all stores in order, the journals of the devices, the results and the turns.
 ///
@@ -52,14 +57,15 @@ impl<D> Outcome<D> {
     }
 }
 
-/// The end where no world was made.
-fn refused<D: Store>(alloc: Global, fault: WorldFault<D>) -> Outcome<D>
-    ensures { IsRefused fault result }
+/// The end where no world was made for so many devices.
+fn refused<D: Store>(alloc: Global, devices: u8, fault: WorldFault<D>) -> Outcome<D>
+    ensures { IsRefused devices fault result }
 {
     match fault {
         WorldFault::TooFew(stores) => {
             let have = u32::try_from(stores.len()).unwrap_or(u32::MAX);
-            Outcome::early(alloc, Status::TooFewStores { have, need: 3 }, stores)
+            let need = devices as u32;
+            Outcome::early(alloc, Status::TooFewStores { have, need }, stores)
         }
         WorldFault::TooSmall(bay, stores) => {
             Outcome::early(alloc, Status::TooSmall { bay }, stores)
@@ -69,15 +75,33 @@ fn refused<D: Store>(alloc: Global, fault: WorldFault<D>) -> Outcome<D>
     }
 }
 
-/// The end where the store of this bay has failed.
-fn stopped<D: Store>(alloc: Global, bay: BayNo, world: World<'_, D>) -> Outcome<D>
+/// The end with all that a world has come to.
+fn closed<D: Store>(status: Status, world: World<'_, D>) -> Outcome<D>
     requires { IsClosable world }
-    ensures status { result.status ≡ StoreFault bay }
+    ensures status { result.status ≡ status }
     ensures stores { result.stores.items ≡ stores_of world.entry.bays.items ++ world.entry.others.items }
-    ensures empty { IsEmpty result }
+    ensures journals { map (λ journal. journal.items) result.journals.items ≡ map (λ bay. bay.journal.items) world.entry.bays.items }
+    ensures results { result.results ≡ world.entry.gathered.results }
+    ensures turns { result.turns ≡ world.entry.turns }
 {
     let closed = world.close();
-    Outcome::early(alloc, Status::StoreFault { bay }, closed.stores)
+    Outcome {
+        status,
+        stores: closed.stores,
+        journals: closed.journals,
+        results: closed.results,
+        turns: closed.turns,
+    }
+}
+
+/// How a call ends whose text was printed, or could not be.
+fn status_of(printed: Result<(), Failed>) -> Status
+    ensures { result ≡ status_of printed }
+{
+    match printed {
+        Ok(()) => Status::Done,
+        Err(_) => Status::WriteFault,
+    }
 }
 
 /// Prints the report of a world that was read, and closes it.
@@ -89,17 +113,30 @@ fn reported<K: Sink, D: Store>(sink: &mut K, world: World<'_, D>) -> Outcome<D>
     ensures results { result.results ≡ world.entry.gathered.results }
     ensures turns { result.turns ≡ world.entry.turns }
 {
-    let status = match write_report(sink, &world.view()) {
-        Ok(()) => Status::Done,
-        Err(_) => Status::WriteFault,
+    let printed = write_report(sink, &world.view());
+    closed(status_of(printed), world)
+}
+
+/// Plays a script over some stores and reads what it has come to. Where that cannot be, the end is there already.
+fn played<'s, D: Store>(
+    alloc: Global,
+    script: &'s Script,
+    stores: Vec<D>,
+) -> Result<World<'s, D>, Outcome<D>>
+    requires script { IsScript script.now }
+    requires few { total script.now ≤ 2 ^ 20 }
+    requires jobs { length (all_jobs script.now) < 2 ^ 32 }
+    ensures finished { IfOk result (IsFinished D.Store script.now stores.items) }
+    ensures refused { IfErr result (IsUnplayed D.Store script.now stores.items) }
+{
+    let mut world = match World::make(alloc, script, stores) {
+        Ok(world) => world,
+        Err(fault) => return Err(refused(alloc, script.n, fault)),
     };
-    let closed = world.close();
-    Outcome {
-        status,
-        stores: closed.stores,
-        journals: closed.journals,
-        results: closed.results,
-        turns: closed.turns,
+    world.play();
+    match world.finish() {
+        Ok(()) => Ok(world),
+        Err(bay) => Err(closed(Status::StoreFault { bay }, world)),
     }
 }
 
@@ -110,20 +147,14 @@ fn play<K: Sink, D: Store>(
     sink: &mut K,
     stores: Vec<D>,
 ) -> Outcome<D>
-    requires form { IsFirstForm script.now }
-    ensures { IsScriptPlayed K.Sink D.Store script.now sink.old sink.new stores.items result }
+    requires script { IsScript script.now }
+    requires few { total script.now ≤ 2 ^ 20 }
+    requires jobs { length (all_jobs script.now) < 2 ^ 32 }
+    ensures { HasPlayed K.Sink D.Store report_text script.now sink.old sink.new stores.items result result.status }
 {
-    let mut world = match World::make(alloc, script, stores) {
-        Ok(world) => world,
-        Err(fault) => return refused(alloc, fault),
-    };
-    world.play();
-    if let Some(bay) = fault_bay(world.bays.as_slice()) {
-        return stopped(alloc, bay, world);
-    }
-    match world.finish() {
-        Ok(()) => reported(sink, world),
-        Err(bay) => stopped(alloc, bay, world),
+    match played(alloc, script, stores) {
+        Ok(world) => reported(sink, world),
+        Err(outcome) => outcome,
     }
 }
 
@@ -149,13 +180,49 @@ pub fn sim_call<S: Source, K: Sink, D: Store>(
         }
         Err(ScriptFault::NoMemory) => return Outcome::early(alloc, Status::Memory, stores),
     };
-    if !is_first(bytes.as_slice()) {
-        return Outcome::early(alloc, Status::NotYet, stores);
+    let weight = total(&script);
+    if weight > MOST_WEIGHT {
+        return Outcome::early(alloc, Status::TooMuch { total: weight }, stores);
     }
     play(alloc, &script, sink, stores)
 }
 
-/// Does what the words behind the program's name ask for. For now only `sim` is done: with other words nothing is touched.
+/// Prints the summary of a world in which a load of n jobs was played, and closes it.
+fn summed<K: Sink, D: Store>(sink: &mut K, n: u32, world: World<'_, D>) -> Outcome<D>
+    requires { IsClosable world }
+    ensures printed { let report = report_in world.entry.script.now world.entry.gathered.results.items world.entry.gathered.contents.items world.entry.turns.items world.entry.gathered.cells.items world.entry.gathered.opened.items in HasPrinted K.Sink (summary_text n report) sink.old sink.new result.status }
+    ensures stores { result.stores.items ≡ stores_of world.entry.bays.items ++ world.entry.others.items }
+    ensures journals { map (λ journal. journal.items) result.journals.items ≡ map (λ bay. bay.journal.items) world.entry.bays.items }
+    ensures results { result.results ≡ world.entry.gathered.results }
+    ensures turns { result.turns ≡ world.entry.turns }
+{
+    let printed = write_summary(sink, n, &world.view());
+    closed(status_of(printed), world)
+}
+
+/// Plays the load of so many jobs over some stores, and prints its summary. Nothing is read.
+pub fn load_call<K: Sink, D: Store>(
+    alloc: Global,
+    n: u32,
+    sink: &mut K,
+    stores: Vec<D>,
+) -> Outcome<D>
+    requires least { 1 ≤ n }
+    requires most { n ≤ 1500 }
+    ensures { IsLoad K.Sink D.Store n sink.old sink.new stores.items result }
+{
+    let script = match make_load(alloc, n) {
+        Ok(script) => script,
+        Err(NoMemory) => return Outcome::early(alloc, Status::Memory, stores),
+    };
+    match played(alloc, &script, stores) {
+        Ok(world) => summed(sink, n, world),
+        Err(outcome) => outcome,
+    }
+}
+
+/// Does what the words behind the program's name ask for. With `run`, which is not done yet, and with words that are no
+/// command nothing is touched.
 pub fn array<S: Source, K: Sink, D: Store>(
     alloc: Global,
     words: &[String],
@@ -164,11 +231,13 @@ pub fn array<S: Source, K: Sink, D: Store>(
     stores: Vec<D>,
 ) -> Outcome<D>
     ensures sim { command_of (map string_bytes words.now) ≡ Some Sim → IsCall S.Source K.Sink D.Store source.old source.new sink.old sink.new stores.items result }
-    ensures others { command_of (map string_bytes words.now) ≢ Some Sim → IsNoCall (command_of (map string_bytes words.now)) stores.items result × (source.new ≡ source.old) × (sink.new ≡ sink.old) }
+    ensures load { (n : ℕ) → command_of (map string_bytes words.now) ≡ Some (Load n) → IsLoad K.Sink D.Store n sink.old sink.new stores.items result × (source.new ≡ source.old) }
+    ensures others { IsNoCallFor (command_of (map string_bytes words.now)) → IsNoCall (command_of (map string_bytes words.now)) stores.items result × (source.new ≡ source.old) × (sink.new ≡ sink.old) }
 {
     match read_command(alloc, words) {
         Ok(Some(Command::Sim)) => sim_call(alloc, source, sink, stores),
-        Ok(Some(_)) => Outcome::early(alloc, Status::NotYet, stores),
+        Ok(Some(Command::Load { jobs })) => load_call(alloc, jobs, sink, stores),
+        Ok(Some(Command::Run)) => Outcome::early(alloc, Status::NotYet, stores),
         Ok(None) => Outcome::early(alloc, Status::Words, stores),
         Err(NoMemory) => Outcome::early(alloc, Status::Memory, stores),
     }

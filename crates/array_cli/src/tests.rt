@@ -2,7 +2,7 @@
 
 use crate::{Command, InputFault, Outcome, array, exit_number, read_all, read_command, sim_call};
 use block_store::{FailingStore, MemoryStore, Store};
-use raid_base::{BayNo, Kind, MemorySink, MemorySource, NoMemory, Status};
+use raid_base::{BayNo, Entry, Kind, MemorySink, MemorySource, NoMemory, Status};
 use std::alloc::Global;
 use std::test::Fail;
 
@@ -190,10 +190,7 @@ fn the_smallest_script_is_played(rt: HostRuntime) -> Result<(), Fail> {
     assert!(rt; are_back(outcome.stores.as_slice()));
     assert_eq!(rt; outcome.results.len(), 2);
     assert_eq!(rt; outcome.turns.len(), 7);
-    let mut entries = Vec::new(rt.alloc());
-    for journal in &outcome.journals {
-        entries.push(journal.len())?;
-    }
+    let entries = lengths(rt.alloc(), outcome.journals.as_slice())?;
     assert_eq!(rt; entries.as_slice(), [3, 1, 3].as_slice());
     Ok(())
 }
@@ -230,21 +227,35 @@ fn a_sink_that_fails_at_any_call_has_taken_a_first_part(rt: HostRuntime) -> Resu
     Ok(())
 }
 
+/// How many entries each journal has.
+fn lengths(alloc: Global, journals: &[Vec<Entry>]) -> Result<Vec<usize>, Fail> {
+    let mut entries = Vec::new(alloc);
+    for journal in journals {
+        entries.push(journal.len())?;
+    }
+    Ok(entries)
+}
+
 /// Each store is asked to clear its row, and at the end for its block. Between, bay 0 is asked for the put and the read of
 /// the block, bay 1 for the share of the other block, and bay 2 for the put of the parity.
 #[test]
-fn a_store_that_fails_at_any_call_is_named(rt: HostRuntime) -> Result<(), Fail> {
-    for (bay, calls) in [(0, 4), (1, 3), (2, 3)] {
-        for failing in 0..calls {
+fn a_store_that_fails_before_or_after_the_play_is_named(rt: HostRuntime) -> Result<(), Fail> {
+    for (bay, last) in [(0, 3), (1, 2), (2, 2)] {
+        let table: [(u32, &[usize]); 2] = [(0, &[]), (last, &[3, 1, 3])];
+        for (failing, entries) in table {
             let (outcome, sink) = call(rt.alloc(), NEVER, NEVER, bay, failing)?;
             let bay = BayNo(bay as u8);
             assert_eq!(rt; outcome.status, Status::StoreFault { bay });
             assert!(rt; sink.written().is_empty());
             assert!(rt; are_back(outcome.stores.as_slice()));
-            assert!(rt; outcome.journals.is_empty());
+            let journals = lengths(rt.alloc(), outcome.journals.as_slice())?;
+            assert_eq!(rt; journals.as_slice(), entries);
+            assert_eq!(rt; outcome.turns.is_empty(), entries.is_empty());
+            assert_eq!(rt; outcome.results.is_empty(), entries.is_empty());
         }
-        let (outcome, _) = call(rt.alloc(), NEVER, NEVER, bay, calls)?;
+        let (outcome, sink) = call(rt.alloc(), NEVER, NEVER, bay, last + 1)?;
         assert_eq!(rt; outcome.status, Status::Done);
+        assert_eq!(rt; sink.written(), REPORT);
     }
     Ok(())
 }
@@ -303,11 +314,69 @@ fn a_text_that_is_no_script_is_told_by_its_line(rt: HostRuntime) -> Result<(), F
     Ok(())
 }
 
+/// The lines of the smallest script.
+const LINES: [&str; 11] = [
+    "raid 1",
+    "devices 3",
+    "rows 1",
+    "mode order",
+    "patience 3",
+    "tries 2",
+    "object a 0",
+    "host 1",
+    "write a 0 41",
+    "read a 0 1",
+    "end",
+];
+
+/// That script with another line in the place of this one.
+fn with_line(alloc: Global, number: u32, line: &str) -> Result<String, Fail> {
+    let mut text = String::new(alloc);
+    for (at, old) in (1..12).zip(&LINES) {
+        if at == number {
+            writeln!(text, "{line}")?;
+        } else {
+            writeln!(text, "{old}")?;
+        }
+    }
+    Ok(text)
+}
+
 #[test]
-fn another_script_is_not_yet_played(rt: HostRuntime) -> Result<(), Fail> {
-    let text = b"raid 1\ndevices 3\nrows 1\nmode order\npatience 3\ntries 2\nend\n";
-    assert_eq!(rt; status(rt.alloc(), text, &[1, 1, 1])?, Status::NotYet);
+fn a_line_that_may_not_stand_is_told_with_its_kind(rt: HostRuntime) -> Result<(), Fail> {
+    let equal = format!(in rt.alloc(); "write a 0 {}", hex_of(rt.alloc())?)?;
+    let table = [
+        (2, "devices 17", Kind::Range),
+        (2, "devices 2", Kind::Range),
+        (2, "devices 03", Kind::Shape),
+        (5, "patience 1099511627776", Kind::Range),
+        (7, "object a 0 0", Kind::Name),
+        (9, "write a 0", Kind::Shape),
+        (9, "write a  0 41", Kind::Shape),
+        (9, "write a 0 41\r", Kind::Shape),
+        (9, equal.as_str(), Kind::Shape),
+        (9, "lose 0", Kind::Operator),
+        (10, "read a 0 121", Kind::Range),
+        (10, "host 1", Kind::Range),
+        (10, "turn 2 1", Kind::Name),
+    ];
+    for (line, text, kind) in table {
+        let script = with_line(rt.alloc(), line, text)?;
+        let bad = Status::BadScript { line, kind };
+        assert_eq!(rt; status(rt.alloc(), script.as_bytes(), &[1, 1, 1])?, bad);
+    }
+    let same = with_line(rt.alloc(), 9, "write a 0 41")?;
+    assert_eq!(rt; same.as_bytes(), SCRIPT);
     Ok(())
+}
+
+/// 64 equal bytes in as many digits as 64 bytes have that are not all equal.
+fn hex_of(alloc: Global) -> Result<String, Fail> {
+    let mut digits = String::new(alloc);
+    for _byte in 0..64 {
+        digits.push_str("41")?;
+    }
+    Ok(digits)
 }
 
 /// A call with one word on the smallest script over three stores.

@@ -1,5 +1,5 @@
 -- What an attempt holds, and that it has given it back when it is refused.
-use Rattle.std.specs.Prelude.{◌≡◌, ◌⊎◌, ◌≤◌, ◌==◌, ◌&&◌, not, Bool, true, false, if◌then◌else◌, List, [], ◌∷◌, filter, map, Option, Some, None, is_some, Result}
+use Rattle.std.specs.Prelude.{◌≡◌, ◌⊎◌, ◌≤◌, not, Bool, true, false, if◌then◌else◌, List, [], ◌∷◌, filter, map, Option, Some, None, is_some, Result}
 use Rattle.std.specs.List.{AllByRecursion}
 use Rattle.raid_base.specs.declared.numbers.BayNo.{BayNo}
 use Rattle.raid_base.specs.declared.numbers.Number.{Number}

@@ -15,6 +15,17 @@ use Rattle.host_write.specs.declared.stages.WriteStage.{WriteStage}
 use Rattle.host_write.specs.declared.stages.WriteStage.TheVariants.{ClaimParity, ClaimWanted, ClaimSmall, ShareUntil, ShareAfter, Confirm, Draw, PutData, PutParity, Finish, Release}
 use Rattle.host_write.specs.Stages.{is_kept, is_settled}
 use Rattle.host_write.specs.Left.{left_of}
+use Rattle.attempts.specs.declared.Repair.{Repair}
+use Rattle.attempts.specs.declared.Rescue.{Rescue}
+use Rattle.attempts.specs.declared.Hold.{Hold}
+use Rattle.rebuild_txn.specs.declared.stages.MendStage.{MendStage}
+use Rattle.rebuild_txn.specs.declared.stages.MendStage.TheVariants as mends
+use Rattle.rebuild_txn.specs.Stages as mend_stages
+use Rattle.rebuild_txn.specs.Left as mend_left
+use Rattle.stripe_recovery.specs.declared.stages.RecoverStage.{RecoverStage}
+use Rattle.stripe_recovery.specs.declared.stages.RecoverStage.TheVariants as recovers
+use Rattle.stripe_recovery.specs.Stages as recover_stages
+use Rattle.stripe_recovery.specs.Left as recover_left
 use Rattle.script_text.specs.Script.{Script}
 use Rattle.host_engine.specs.Plain.{task_blocks, task_count, is_held_task, AreTaskParts, contents_in}
 
@@ -51,3 +62,31 @@ nothing-read (PutData m row) a t rows puts (x ∷ es) n parts k h = refl
 nothing-read (PutParity m row) a t rows puts (x ∷ es) n parts k h = refl
 nothing-read (Finish m) a t rows puts (x ∷ es) n parts k h = refl
 nothing-read (Release cause) a t rows puts (x ∷ es) n parts k h = refl
+
+-- nor does a rebuild
+pub nothing-mended : (stage : MendStage) (m : Repair) (holds : List Hold) (es : List Errand) (held : ℕ) → mend_stages.is_kept stage (length es) held ≡ true →
+    contents_in (answer (mend_left.left_of stage m holds es)) ≡ []
+nothing-mended mends.Claiming m holds [] held k = cc
+nothing-mended mends.Confirming m holds [] held k = cc
+nothing-mended mends.Putting m holds [] held k = cc
+nothing-mended (mends.Releasing why) m holds [] held k = refl
+nothing-mended mends.Claiming m holds (x ∷ es) held k = refl
+nothing-mended mends.Confirming m holds (x ∷ es) held k = refl
+nothing-mended mends.Putting m holds (x ∷ es) held k = refl
+nothing-mended (mends.Releasing why) m holds (x ∷ es) held k = refl
+
+-- nor a recovery
+pub nothing-recovered : (stage : RecoverStage) (r : Rescue) (t : Taken) (es : List Errand) → recover_stages.is_kept stage (length es) t ≡ true →
+    contents_in (answer (recover_left.left_of stage r t es)) ≡ []
+nothing-recovered recovers.Parity r t [] k = cc
+nothing-recovered recovers.Units r t [] k = cc
+nothing-recovered recovers.Confirming r t [] k = cc
+nothing-recovered (recovers.Putting n lost) r t [] k = cc
+nothing-recovered (recovers.Closing n lost) r t [] k = refl
+nothing-recovered (recovers.Releasing why) r t [] k = refl
+nothing-recovered recovers.Parity r t (x ∷ es) k = refl
+nothing-recovered recovers.Units r t (x ∷ es) k = refl
+nothing-recovered recovers.Confirming r t (x ∷ es) k = refl
+nothing-recovered (recovers.Putting n lost) r t (x ∷ es) k = refl
+nothing-recovered (recovers.Closing n lost) r t (x ∷ es) k = refl
+nothing-recovered (recovers.Releasing why) r t (x ∷ es) k = refl

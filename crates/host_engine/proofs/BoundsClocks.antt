@@ -24,7 +24,9 @@ use Rattle.raid_base.specs.Numbers.{draw}
 use Rattle.raid_base.specs.Steps.{Steps, Asks, Draws, Ends, told}
 use Rattle.attempts.specs.Taking.{Finish}
 use Rattle.script_text.specs.Script.{Script, jobs_of, parts_of}
-use Rattle.host_engine.specs.Progress.{Progress, Gone, Work, Trying, Losing, Fitting, Over, takes, work_errand, work_told, call_counted, steps_left, asks_on, attempt_ended, attempt_refused, is_spent, row_mended, next_row, once_more, try_again, try_with, try_task, try_parts, parts_end, lose_job, fit_job, rebuild_job, is_gone, task_of, job_ended, go_on, stops, with_ending, next_job, one_more, start_task, start_jobs, at_start}
+use Rattle.host_engine.specs.Progress.{Progress, Work, Trying, Losing, Fitting, Over, takes, work_errand, work_told, call_counted, steps_left, asks_on, attempt_ended, attempt_refused, is_spent, row_mended, next_row, once_more, try_again, try_with, try_task, try_parts, parts_end, lose_job, fit_job, rebuild_job, task_of, job_ended, go_on, stops, with_ending, next_job, one_more, start_task, start_jobs, at_start}
+use Rattle.host_engine.specs.declared.operator.Gone.{Gone}
+use Rattle.host_engine.specs.Operator.{is_gone}
 use Rattle.host_engine.specs.History.{if_taken, progress_at, clock_at}
 use Rattle.host_engine.specs.Asked.{IsAsked, AreAsked}
 use Rattle.host_engine.proofs.BoundsTakes.{before_start, sent-errand}

@@ -1,4 +1,4 @@
--- An attempt of a read or a write keeps to the bounds of its job.
+-- An attempt keeps to the bounds of its job.
 use Rattle.std.proofs.Common.{◌≡◌, ℕ, zero, suc, ◌+◌, ◌-◌, ◌*◌, ◌/◌, ◌%◌, ◌^◌, ◌<◌, ◌≤◌, List, [], ◌∷◌, ◌++◌, length, take, drop, Bool, true, false, cond, if◌then◌else◌, Option, Some, None, option_map, Result, Ok, Err, find, sum_by, refl, sym, ap, subst, ◌∙◌, arith}
 use Rattle.std.specs.Prelude.{nat_lt, ok_or, IsOk}
 use Rattle.std.specs.List.{AllByRecursion, list_any}
@@ -9,32 +9,37 @@ use Rattle.std.proofs.lemmas.List.Elements.{recursion_from_All}
 use Rattle.std.proofs.lemmas.Bool.Decides.{nat_tests}
 use Rattle.raid_base.specs.declared.numbers.HostNo.{HostNo}
 use Rattle.raid_base.specs.declared.numbers.RowNo.{RowNo}
+use Rattle.raid_base.specs.declared.numbers.BayNo.{BayNo}
 use Rattle.raid_base.specs.declared.numbers.Number.{Number}
 use Rattle.raid_base.specs.declared.names.Name.{Name}
-use Rattle.raid_base.specs.declared.messages.Errand.{Errand}
-use Rattle.raid_base.specs.declared.messages.Reply.{Reply}
-use Rattle.raid_base.specs.declared.jobs.Job.{Job}
 use Rattle.raid_base.specs.declared.jobs.Task.{Task}
 use Rattle.raid_base.specs.declared.jobs.Task.TheVariants as tasks
 use Rattle.raid_base.specs.declared.jobs.RowPart.{RowPart}
 use Rattle.raid_base.specs.declared.jobs.PartsFault.{PartsFault}
 use Rattle.raid_base.specs.declared.jobs.PartsFault.TheVariants.{PastEnd, TooManyRows}
 use Rattle.raid_base.specs.Names.{is_text}
-use Rattle.raid_base.specs.Numbers.{draw, seen_drawn, least_above, sees}
-use Rattle.raid_base.specs.Steps.{Steps, Asks, Draws, Ends, draws, settled, told, next_errand}
+use Rattle.raid_base.specs.Numbers.{draw, seen_drawn, least_above}
+use Rattle.raid_base.specs.Steps.{Steps, Asks, Draws, Ends, draws, settled}
 use Rattle.stripe_layout.specs.Placement.{units_in}
 use Rattle.virtual_objects.specs.Objects.{Object, rows_of, rows_touched, parts_from, parts_in, parts_found}
 use Rattle.virtual_objects.specs.Table.{numbers, held}
 use Rattle.virtual_objects.specs.RowParts.{IsPart, ArePartsOf}
 use Rattle.virtual_objects.proofs.JobLemmas.{are_parts}
 use Rattle.attempts.specs.Discipline.{Obeys, IsDrawn, IsNumber, IsWithin, IsPlainFinish, IsAccess}
+use Rattle.attempts.specs.BayBounds.{ObeysAt}
 use Rattle.attempts.proofs.ReadObeys.{reads_keep_bounds}
 use Rattle.attempts.proofs.WriteObeys.{writes_keep_bounds}
+use Rattle.attempts.proofs.RepairObeys.{rebuilds_keep_bounds, recoveries_keep_bounds}
+use Rattle.attempts.proofs.ReadBays.{reads_keep_bay_bounds}
+use Rattle.attempts.proofs.WriteBays.{writes_keep_bay_bounds}
+use Rattle.attempts.proofs.RepairBays.{rebuilds_keep_bay_bounds, recoveries_keep_bay_bounds}
+use Rattle.attempts.specs.Taking.{Finish}
 use Rattle.script_text.specs.Script.{Script, parts_of, blocks_of}
 use Rattle.script_text.specs.Ranges.{IsScript}
+use Rattle.script_text.specs.Weights.{touched}
 use Rattle.host_engine.specs.Progress.{access, attempt, read_of, write_of}
-use Rattle.host_engine.specs.Plain.{is_plain_task, task_parts}
-use Rattle.host_engine.specs.Bounds.{HasBlocks, KeepsAttempt, parts_requests, attempt_requests, task_contents}
+use Rattle.host_engine.specs.Plain.{IsTried}
+use Rattle.host_engine.specs.Bounds.{IsAimed, IsFinish, parts_requests, task_requests, task_contents}
 
 -- a drawn number is within
 drawn-within : (n : ℕ) (b : Bool) → nat_lt n (2 ^ 62) ≡ b → 1 ≤ n → (spent : _) → IsDrawn (ok_or (if b then Some (record { 0 = n }) else None) spent)
@@ -53,21 +58,6 @@ pub settled-still : {A : Type 0} (host : HostNo) (seen : Number) (s : Steps A) �
 settled-still host seen (Asks e t c k) = refl
 settled-still host seen (Draws k) = settled-still host (seen_drawn seen (draw host seen)) (k (draw host seen))
 settled-still host seen (Ends a) = refl
-
--- what obeys still does once it is settled
-pub settled-obeys : {A : Type 0} (P : Errand → Type 0) (Q : A → Type 0) (most : ℕ) (host : HostNo) (seen : Number) (s : Steps A) →
-    Obeys P Q most s → Obeys P Q most (settled host seen s).steps
-settled-obeys P Q most host seen (Asks e t c k) o = o
-settled-obeys P Q most host seen (Draws k) o = settled-obeys P Q most host (seen_drawn seen (draw host seen)) (k (draw host seen)) (o (draw host seen) (draw-within host seen))
-settled-obeys P Q most host seen (Ends a) o = o
-
--- one request less
-pub told-obeys : {A : Type 0} (P : Errand → Type 0) (Q : A → Type 0) (most : ℕ) (host : HostNo) (seen : Number) (s : Steps A) (e : Errand) (r : Reply) →
-    Obeys P Q most s → next_errand s ≡ Some e → (less : ℕ) × (less + 1 ≡ most) × Obeys P Q less (told host (record { seen = seen; steps = s }) r).steps
-told-obeys P Q zero host seen (Asks e t c k) errand r o is = absurd o
-told-obeys P Q (suc m) host seen (Asks e t c k) errand r o is = (m, omega arith, settled-obeys P Q m host (sees seen r) (k r) (o.1 r))
-told-obeys P Q most host seen (Draws k) errand r o is = cc
-told-obeys P Q most host seen (Ends a) errand r o is = cc
 
 -- Rows
 below-left : (rows : ℕ) (xs : List RowNo) (ys : List ℕ) → AllByRecursion (λ (r : ℕ). r < rows) (numbers xs ++ ys) → AllByRecursion (λ (r : RowNo). r.0 < rows) xs
@@ -140,6 +130,15 @@ held-below n (x ∷ xs) all = (
     either-true true b h = refl
     either-true false b h = h
 
+-- an attempt of a task asks one bay so often at most
+abbrev pub task_weight : Script → Task → ℕ
+task_weight script (tasks.Read object first count) = 4 * touched (parts_of script object first count)
+task_weight script (tasks.Write object first from count) = 4 * touched (parts_of script object first count)
+task_weight script (tasks.Recover row) = 4
+task_weight script (tasks.Lose bay) = 1
+task_weight script (tasks.Fit bay) = 1
+task_weight script (tasks.Rebuild bay) = 4
+
 module _ (script : Script) (is : IsScript script) (id : Number) (drawn : IsNumber id) where
   -- the access of a granted job
   found-access : (object : Name) (first count : ℕ) (parts : List RowPart) (blocks : List (List ℕ)) → 1 ≤ count → (found : Option (List RowNo)) →
@@ -173,17 +172,54 @@ module _ (script : Script) (is : IsScript script) (id : Number) (drawn : IsNumbe
       writes_keep_bounds (access script id parts blocks) script.rows count (granted-access object first count parts blocks some ok)
   write-obeys object first count blocks some (Err fault) ok granted = absurd (cc granted)
 
-  task-obeys : (host : HostNo) (row : ℕ) (task : Task) → is_plain_task task ≡ true → HasBlocks task → IsOk (task_parts script task) →
-      Obeys (IsWithin script.n script.rows) (IsPlainFinish (task_contents task)) (parts_requests script.n (task_parts script task)) (attempt script host id row task)
-  task-obeys host row (tasks.Read object first count) plain some granted = read-obeys object first count some (parts_of script object first count) refl granted
-  task-obeys host row (tasks.Write object first from count) plain some granted =
-      write-obeys object first count (blocks_of script from count) some (parts_of script object first count) refl granted
-  task-obeys host row (tasks.Recover at) plain some granted = absurd (cc)
-  task-obeys host row (tasks.Lose bay) plain some granted = absurd (cc)
-  task-obeys host row (tasks.Fit bay) plain some granted = absurd (cc)
-  task-obeys host row (tasks.Rebuild bay) plain some granted = absurd (cc)
+  -- an attempt of a task, whatever its id
+  pub attempt-obeys : (host : HostNo) (row : ℕ) (task : Task) → row < script.rows → IsAimed script task → IsTried script task →
+      Obeys (IsWithin script.n script.rows) (IsFinish script task) (task_requests script task) (attempt script host id row task)
+  attempt-obeys host row (tasks.Read object first count) below aim tried = read-obeys object first count aim (parts_of script object first count) refl tried
+  attempt-obeys host row (tasks.Write object first from count) below aim tried =
+      write-obeys object first count (blocks_of script from count) aim (parts_of script object first count) refl tried
+  attempt-obeys host row (tasks.Recover at) below aim tried =
+      recoveries_keep_bounds (record { n = script.n; host = host; id = id; row = at }) script.rows
+      (record { least = is.devices_least; most = is.devices_most; id = drawn; row = aim })
+  attempt-obeys host row (tasks.Lose bay) below aim tried = absurd tried
+  attempt-obeys host row (tasks.Fit bay) below aim tried = absurd tried
+  attempt-obeys host row (tasks.Rebuild bay) below aim tried =
+      rebuilds_keep_bounds (record { n = script.n; id = id; row = record { 0 = row }; target = bay }) script.rows
+      (record { least = is.devices_least; most = is.devices_most; id = drawn; row = below; target = tried })
 
-  -- an attempt of a plain job, whatever its id
-  pub attempt-obeys : (host : HostNo) (row : ℕ) (job : Job) → is_plain_task job.task ≡ true → HasBlocks job.task → IsOk (task_parts script job.task) →
-      KeepsAttempt script job (attempt_requests script job) (attempt script host id row job.task)
-  attempt-obeys host row job plain some granted = task-obeys host row job.task plain some granted
+  -- one bay alone
+  module _ (bay : BayNo) where
+    read-obeys-at : (object : Name) (first count : ℕ) → 1 ≤ count → (r : Result (List RowPart) PartsFault) → parts_of script object first count ≡ r → IsOk r →
+        ObeysAt bay (4 * touched r) (read_of script id r)
+    read-obeys-at object first count some (Ok parts) ok granted =
+        reads_keep_bay_bounds (access script id parts []) script.rows count (granted-access object first count parts [] some ok) bay
+    read-obeys-at object first count some (Err fault) ok granted = absurd (cc granted)
+
+    write-obeys-at : (object : Name) (first count : ℕ) (blocks : List (List ℕ)) → 1 ≤ count → (r : Result (List RowPart) PartsFault) → parts_of script object first count ≡ r → IsOk r →
+        ObeysAt bay (4 * touched r) (write_of script id blocks r)
+    write-obeys-at object first count blocks some (Ok parts) ok granted =
+        writes_keep_bay_bounds (access script id parts blocks) script.rows count (granted-access object first count parts blocks some ok) bay
+    write-obeys-at object first count blocks some (Err fault) ok granted = absurd (cc granted)
+
+    pub attempt-obeys-at : (host : HostNo) (row : ℕ) (task : Task) → row < script.rows → IsAimed script task → IsTried script task →
+        ObeysAt bay (task_weight script task) (attempt script host id row task)
+    attempt-obeys-at host row (tasks.Read object first count) below aim tried = read-obeys-at object first count aim (parts_of script object first count) refl tried
+    attempt-obeys-at host row (tasks.Write object first from count) below aim tried =
+        write-obeys-at object first count (blocks_of script from count) aim (parts_of script object first count) refl tried
+    attempt-obeys-at host row (tasks.Recover at) below aim tried =
+        recoveries_keep_bay_bounds (record { n = script.n; host = host; id = id; row = at }) script.rows
+        (record { least = is.devices_least; most = is.devices_most; id = drawn; row = aim }) bay
+    attempt-obeys-at host row (tasks.Lose lost) below aim tried = absurd tried
+    attempt-obeys-at host row (tasks.Fit lost) below aim tried = absurd tried
+    attempt-obeys-at host row (tasks.Rebuild target) below aim tried =
+        rebuilds_keep_bay_bounds (record { n = script.n; id = id; row = record { 0 = row }; target = target }) script.rows
+        (record { least = is.devices_least; most = is.devices_most; id = drawn; row = below; target = tried }) bay
+
+-- what an attempt of a task may have read
+pub read-most : (script : Script) (task : Task) (f : Finish) → IsFinish script task f → length f.contents ≤ task_contents task
+read-most script (tasks.Read object first count) f fine = fine.contents
+read-most script (tasks.Write object first from count) f fine = fine.contents
+read-most script (tasks.Recover row) f fine = let none = ap length fine.contents in omega (arith, none)
+read-most script (tasks.Lose bay) f fine = absurd fine
+read-most script (tasks.Fit bay) f fine = absurd fine
+read-most script (tasks.Rebuild bay) f fine = let none = ap length fine.contents in omega (arith, none)

@@ -1,35 +1,40 @@
 -- How a host's progress takes an answer.
 use Rattle.std.proofs.Common.{◌≡◌, ℕ, ◌+◌, ◌<◌, ◌≤◌, ◌^◌, ◌%◌, zero, suc, List, [], ◌∷◌, ◌++◌, length, Bool, true, false, Option, Some, None, refl, sym, ap, subst, ◌∙◌, arith}
-use Rattle.std.specs.Prelude.{nat_lt, ok_or, if◌then◌else◌, option_map, drop, sum_by, IsOk}
+use Rattle.std.specs.Prelude.{nat_lt, ok_or, if◌then◌else◌, option_map, drop, sum_by}
 use Rattle.std.proofs.lemmas.List.Sums.{sum_by-cons}
+use Rattle.std.proofs.lemmas.List.{length-drop}
 use Rattle.std.proofs.lemmas.Bool.Decides.{nat_tests}
 use Rattle.raid_base.specs.declared.numbers.HostNo.{HostNo}
 use Rattle.raid_base.specs.declared.numbers.Number.{Number}
 use Rattle.raid_base.specs.declared.messages.Reply.{Reply}
 use Rattle.raid_base.specs.declared.messages.Errand.{Errand}
 use Rattle.raid_base.specs.Numbers.{draw, seen_drawn, least_above, sees}
-use Rattle.raid_base.specs.Steps.{Steps, Asks, Draws, Ends, Standing, draws, answer, settled, told, next_errand, behind}
+use Rattle.raid_base.specs.Steps.{Steps, Asks, Draws, Ends, Standing, draws, answer, stopped, settled, told, next_errand, behind}
 use Rattle.attempts.specs.Taking.{Finish}
-use Rattle.attempts.specs.Discipline.{Obeys, IsDrawn, IsWithin, IsPlainFinish, IsPlainEnd}
+use Rattle.attempts.specs.Discipline.{Obeys, IsDrawn, IsWithin}
 use Rattle.std.specs.Vec.{vec_len, vec_capacity}
-use Rattle.raid_base.specs.declared.messages.Request.TheVariants.{Lose}
 use Rattle.raid_base.specs.declared.messages.Call.{Call}
 use Rattle.raid_base.specs.declared.messages.Answer.{Answer}
 use Rattle.raid_base.specs.declared.messages.Ask.{Ask}
 use Rattle.raid_base.specs.declared.numbers.BayNo.{BayNo}
 use Rattle.raid_base.specs.declared.jobs.Ended.{Ended}
+use Rattle.raid_base.specs.declared.jobs.JobEnd.{JobEnd}
+use Rattle.raid_base.specs.declared.jobs.JobEnd.TheVariants as job_ends
 use Rattle.raid_base.specs.declared.jobs.Job.{Job}
 use Rattle.raid_base.specs.declared.cells.Content.{Content}
 use Rattle.place_numbers.specs.declared.Numbers.{Numbers}
 use Rattle.host_engine.specs.Left.{left, Suits, SuitsWork}
 use Rattle.host_engine.specs.declared.attempt.Attempt.{Attempt}
+use Rattle.host_engine.specs.declared.duty.Duty.{Duty}
+use Rattle.host_engine.specs.declared.duty.Duty.TheVariants as duties
 use Rattle.host_engine.specs.declared.host.Host.{Host}
-use Rattle.host_engine.specs.Stands.{Counts, Stands, Told, IsNoted, CanTake, Takes, IsSentBy, sent_pair, contents_of, work_of}
+use Rattle.host_engine.specs.Stands.{Counts, Stands, KeepsRoom, Told, IsAsking, Quits, IsNoted, CanHear, CanTake, Takes, IsSentBy, sent_pair, contents_of, work_of}
 use Rattle.script_text.specs.Script.{Script, jobs_of}
-use Rattle.host_engine.specs.Progress.{Progress, Ending, Trying, steps_left, attempt_ended, takes, work_told, call_counted, asks, sent_by, work_errand, Sent, Work}
-use Rattle.host_engine.specs.Plain.{are_plain, FitsNext, first_blocks, first_parts, contents_in}
-use Rattle.host_engine.specs.Bounds.{Keeps, KeepsSteps, KeepsWork, job_contents}
-use Rattle.host_engine.proofs.HostLemmas.{stops-not, plain-left}
+use Rattle.host_engine.specs.Progress.{Progress, Ending, Work, Trying, Losing, Fitting, Over, steps_left, asks_on, attempt_ended, job_ended, stops, quit_end, with_ending, next_job, work_told, call_counted, asks, sent_by, work_errand, Sent}
+use Rattle.host_engine.specs.Plain.{FitsNext, FirstTried, first_blocks, contents_in}
+use Rattle.host_engine.specs.Bounds.{Keeps, KeepsSteps, KeepsDevice, KeepsWork, IsFinish, job_contents}
+use Rattle.host_engine.proofs.BoundsTries.{read-most}
+use Rattle.host_engine.proofs.HostLemmas.{stopped-stands}
 
 -- once settled nothing is to be drawn
 pub draws-settled : {A : Type 0} (host : HostNo) (seen : Number) (s : Steps A) → draws (settled host seen s).steps ≡ false
@@ -38,11 +43,26 @@ draws-settled host seen (Draws k) = draws-settled host (seen_drawn seen (draw ho
 draws-settled host seen (Ends a) = refl
 
 -- the attempt goes on
-pub steps-go : (script : Script) (host : HostNo) (p : Progress) (steps : Steps Finish) → are_plain p.jobs ≡ true → draws steps ≡ false → answer steps ≡ None →
+pub steps-go : (script : Script) (host : HostNo) (p : Progress) (steps : Steps Finish) → stops p ≡ false → draws steps ≡ false → answer steps ≡ None →
     steps_left script host p steps ≡ record p { work = Trying steps }
-steps-go script host p (Asks e t c k) plain still open_ = rw (stops-not p.jobs p.asked plain) refl
-steps-go script host p (Draws k) plain still open_ = cc
-steps-go script host p (Ends a) plain still open_ = cc
+steps-go script host p (Asks e t c k) goes still open_ = ap (asks_on p (Asks e t c k) t) goes
+steps-go script host p (Draws k) goes still open_ = cc
+steps-go script host p (Ends a) goes still open_ = cc
+
+-- or the host stops with it
+pub steps-quit : (script : Script) (host : HostNo) (p : Progress) (steps : Steps Finish) (stop : Ended) → stops p ≡ true → stopped steps ≡ Some stop →
+    steps_left script host p steps ≡ record (next_job (with_ending p (quit_end p.tries stop) [])) { work = Over }
+steps-quit script host p (Asks e t c k) stop quits is =
+    let same : t ≡ stop = cc in
+    ap (asks_on p (Asks e t c k) t) quits ∙ ap (λ (x : Ended). asks_on p (Asks e t c k) x true) same
+steps-quit script host p (Draws k) stop quits is = cc
+steps-quit script host p (Ends a) stop quits is = cc
+
+-- what has not ended and draws nothing says how it would end
+pub stop-some : (steps : Steps Finish) → draws steps ≡ false → answer steps ≡ None → (stop : Ended) × (stopped steps ≡ Some stop)
+stop-some (Asks e t c k) still open_ = (t, refl)
+stop-some (Draws k) still open_ = cc
+stop-some (Ends a) still open_ = cc
 
 -- or it has ended
 pub steps-end : (script : Script) (host : HostNo) (p : Progress) (steps : Steps Finish) (f : Finish) → answer steps ≡ Some f →
@@ -87,23 +107,23 @@ obeys-told P Q most host now r o f = go most now.steps o f
     go m (Ends a) o f = absurd f
 
 -- where a host stands once its attempt was told the reply
-pub record Advanced (script : Script) (host : HostNo) (mid : Host) (p : Progress) (call : Call) : Type 0 where
+pub record Advanced (script : Script) (host : HostNo) (mid : Host) (p : Progress) (reply : Reply) : Type 0 where
   pub p2 : Progress
   pub before : Steps Finish
   pub steps : Steps Finish
   pub now : Attempt
   pub worked : p.work ≡ Trying before
-  pub told_is : steps ≡ (told host (record { seen = p.seen; steps = before }) call.answer.reply).steps
+  pub told_is : steps ≡ (told host (record { seen = p.seen; steps = before }) reply).steps
   pub same_endings : p2.endings ≡ p.endings
-  pub takes_it : takes script host p call ≡ steps_left script host p2 steps
+  pub takes_it : work_told script host p reply p.work ≡ steps_left script host p2 steps
   pub counts : Counts script host mid p2
   pub same_jobs : p2.jobs ≡ p.jobs
   pub still : draws steps ≡ false
-  pub in_hand : mid.attempt ≡ Some now
+  pub in_hand : mid.duty ≡ Some (duties.Trying now)
   pub left_is : steps ≡ left now (first_blocks script p2.jobs)
   pub suits : Suits now (first_blocks script p2.jobs)
 
-blocks-same : (script : Script) (host : HostNo) (now mid : Host) (p : Progress) → Counts script host now p → mid.script ≡ now.script → mid.jobs ≡ now.jobs → mid.job ≡ now.job →
+pub blocks-same : (script : Script) (host : HostNo) (now mid : Host) (p : Progress) → Counts script host now p → mid.script ≡ now.script → mid.jobs ≡ now.jobs → mid.job ≡ now.job →
     first_blocks mid.script.now (drop mid.job mid.jobs.now) ≡ first_blocks script p.jobs
 blocks-same script host now mid p c plays listed job =
     ap (λ (s : Script). first_blocks s (drop mid.job mid.jobs.now)) (ap (λ (s : _). s.now) plays ∙ c.plays)
@@ -111,77 +131,91 @@ blocks-same script host now mid p c plays listed job =
     ∙ ap (λ (js : List Job). first_blocks script (drop now.job js)) (ap (λ (s : _). s.now) listed ∙ c.listed)
     ∙ ap (first_blocks script) (sym c.jobs)
 
-pub advances : (script : Script) (host : HostNo) (old noted mid : Host) (p : Progress) (call : Call) (ended : Option Ended) →
-    Stands script host old p → IsNoted old noted call.answer.clock → Told noted mid call.answer.reply ended → Advanced script host mid p call
-advances script host old noted mid p call ended s n t =
+unfoldable pub advances : (script : Script) (host : HostNo) (old mid : Host) (p : Progress) (reply : Reply) (ended : Option Ended) →
+    Stands script host old p → Told old mid reply ended → Advanced script host mid p reply
+advances script host old mid p reply ended s t =
     let c = s.counts in
     let bs = first_blocks script p.jobs in
-    let blocks : first_blocks noted.script.now (drop noted.job noted.jobs.now) ≡ bs = blocks-same script host old noted p c n.plays n.listed n.job in
-    let was : old.attempt ≡ Some t.was = sym n.attempt ∙ t.in_hand in
-    let work : p.work ≡ Trying (left t.was bs) = s.work ∙ ap (work_of script p.jobs) was in
-    let host_is : noted.numbers.host ≡ host = ap (λ (x : Numbers). x.host) n.numbers ∙ c.draws in
-    let seen_is : noted.numbers.seen ≡ p.seen = ap (λ (x : Numbers). x.seen) n.numbers ∙ sym c.seen in
-    let here : Standing Finish = told host (record { seen = p.seen; steps = left t.was bs }) call.answer.reply in
+    let blocks : first_blocks old.script.now (drop old.job old.jobs.now) ≡ bs = blocks-same script host old old p c refl refl refl in
+    let work : p.work ≡ Trying (left t.was bs) = s.work ∙ ap (work_of script p.jobs) t.in_hand in
+    let seen_is : old.numbers.seen ≡ p.seen = sym c.seen in
+    let here : Standing Finish = told host (record { seen = p.seen; steps = left t.was bs }) reply in
     let steps : record { seen = mid.numbers.seen; steps = left t.now bs } ≡ here =
     ap (λ (x : List (List ℕ)). record { seen = mid.numbers.seen; steps = left t.now x }) (sym blocks) ∙ t.steps
-    ∙ ap (λ (x : List (List ℕ)). told noted.numbers.host (record { seen = noted.numbers.seen; steps = left t.was x }) call.answer.reply) blocks
-    ∙ ap (λ (x : Number). told noted.numbers.host (record { seen = x; steps = left t.was bs }) call.answer.reply) seen_is
-    ∙ ap (λ (h : HostNo). told h (record { seen = p.seen; steps = left t.was bs }) call.answer.reply) host_is in
-    let counted : Progress = call_counted p call in
+    ∙ ap (λ (x : List (List ℕ)). told old.numbers.host (record { seen = old.numbers.seen; steps = left t.was x }) reply) blocks
+    ∙ ap (λ (x : Number). told old.numbers.host (record { seen = x; steps = left t.was bs }) reply) seen_is
+    ∙ ap (λ (h : HostNo). told h (record { seen = p.seen; steps = left t.was bs }) reply) c.draws in
     record {
-      p2 = record counted { seen = here.seen };
+      p2 = record p { seen = here.seen };
       before = left t.was bs;
       steps = here.steps;
       now = t.now;
       worked = work;
       told_is = refl;
       same_endings = refl;
-      takes_it = ap (work_told script host counted call.answer.reply) work;
+      takes_it = ap (work_told script host p reply) work;
       counts = record {
-        number = t.number ∙ n.number ∙ c.number;
-        plays = ap (λ (s : _). s.now) (t.plays ∙ n.plays) ∙ c.plays;
-        listed = ap (λ (s : _). s.now) (t.listed ∙ n.listed) ∙ c.listed;
-        place = c.place ∙ sym (t.job ∙ n.job);
-        jobs = c.jobs ∙ ap (λ k. drop k (jobs_of script host)) (sym (t.job ∙ n.job));
-        tries = c.tries ∙ sym (t.tries ∙ n.tries);
-        row = c.row;
-        draws = t.draws_for ∙ host_is;
+        number = t.number ∙ c.number;
+        plays = ap (λ (s : _). s.now) t.plays ∙ c.plays;
+        listed = ap (λ (s : _). s.now) t.listed ∙ c.listed;
+        place = c.place ∙ sym t.job;
+        jobs = c.jobs ∙ ap (λ k. drop k (jobs_of script host)) (sym t.job);
+        asked = c.asked ∙ sym t.asked;
+        tries = c.tries ∙ sym t.tries;
+        row = c.row ∙ sym t.row;
+        gone = c.gone ∙ sym t.gone;
+        draws = t.draws_for ∙ c.draws;
         seen = ap (λ (x : Standing Finish). x.seen) (sym steps);
-        clock = sym (t.clock ∙ n.clock_is);
-        results = ap (λ (v : _). v.items) (t.results ∙ n.results) ∙ c.results;
-        contents = ap (λ (v : _). v.items) (t.contents ∙ n.contents) ∙ c.contents;
+        clock = c.clock ∙ sym t.clock;
+        results = ap (λ (v : _). v.items) t.results ∙ c.results;
+        contents = ap (λ (v : _). v.items) t.contents ∙ c.contents;
       };
       same_jobs = refl;
-      still = draws-settled host (sees p.seen call.answer.reply) (behind (left t.was bs) call.answer.reply);
+      still = draws-settled host (sees p.seen reply) (behind (left t.was bs) reply);
       in_hand = t.still_in_hand;
       left_is = ap (λ (x : Standing Finish). x.steps) (sym steps);
       suits = subst (λ (x : List (List ℕ)). Suits t.now x) blocks t.suits;
     }
 
--- the attempt goes on
-pub stands-on : (script : Script) (host : HostNo) (mid : Host) (p : Progress) (call : Call) (a : Advanced script host mid p call) →
-    are_plain mid.jobs.now ≡ true → ((blocks : List (List ℕ)) → None ≡ option_map (λ (f : Finish). f.ended) (answer (left a.now blocks))) →
-    Stands script host mid (takes script host p call)
-stands-on script host mid p call a plain ends =
+-- an attempt that has not ended has no answer
+pub open-left : (script : Script) (host : HostNo) (mid : Host) (p : Progress) (reply : Reply) (a : Advanced script host mid p reply) →
+    ((blocks : List (List ℕ)) → None ≡ option_map (λ (f : Finish). f.ended) (answer (left a.now blocks))) → answer a.steps ≡ None
+open-left script host mid p reply a ends =
     let bs = first_blocks script a.p2.jobs in
-    let none : answer a.steps ≡ None = ap answer a.left_is ∙ no-answer (answer (left a.now bs)) (ends bs) in
-    let go = a.takes_it ∙ steps-go script host a.p2 a.steps (plain-left script host mid a.p2 a.counts plain) a.still none in
-    subst (λ (q : Progress). Stands script host mid q) (sym go) (record {
-      counts = record { number = a.counts.number; plays = a.counts.plays; listed = a.counts.listed; place = a.counts.place; jobs = a.counts.jobs; tries = a.counts.tries; row = a.counts.row; draws = a.counts.draws; seen = a.counts.seen; clock = a.counts.clock; results = a.counts.results; contents = a.counts.contents };
-      work = ap Trying a.left_is ∙ sym (ap (work_of script a.p2.jobs) a.in_hand);
-      suits = subst (λ (o : Option Attempt). SuitsWork o (first_blocks script a.p2.jobs)) (sym a.in_hand) a.suits;
-    })
+    ap answer a.left_is ∙ no-answer (answer (left a.now bs)) (ends bs)
   where
     no-answer : (o : Option Finish) → None ≡ option_map (λ (f : Finish). f.ended) o → o ≡ None
     no-answer None e = refl
     no-answer (Some f) e = cc
 
+-- the attempt goes on
+pub stands-on : (script : Script) (host : HostNo) (mid : Host) (p : Progress) (reply : Reply) (a : Advanced script host mid p reply) →
+    stops a.p2 ≡ false → ((blocks : List (List ℕ)) → None ≡ option_map (λ (f : Finish). f.ended) (answer (left a.now blocks))) →
+    Stands script host mid (work_told script host p reply p.work)
+stands-on script host mid p reply a goes ends =
+    let go = a.takes_it ∙ steps-go script host a.p2 a.steps goes a.still (open-left script host mid p reply a ends) in
+    subst (λ (q : Progress). Stands script host mid q) (sym go) (record {
+      counts = record { number = a.counts.number; plays = a.counts.plays; listed = a.counts.listed; place = a.counts.place; jobs = a.counts.jobs; asked = a.counts.asked; tries = a.counts.tries; row = a.counts.row; gone = a.counts.gone; draws = a.counts.draws; seen = a.counts.seen; clock = a.counts.clock; results = a.counts.results; contents = a.counts.contents };
+      work = ap Trying a.left_is ∙ sym (ap (work_of script a.p2.jobs) a.in_hand);
+      suits = subst (λ (o : Option Duty). SuitsWork o (first_blocks script a.p2.jobs)) (sym a.in_hand) a.suits;
+    })
+
+-- or the host stops with it in hand
+pub stands-quit : (script : Script) (host : HostNo) (mid last : Host) (p : Progress) (reply : Reply) (a : Advanced script host mid p reply) →
+    stops a.p2 ≡ true → ((blocks : List (List ℕ)) → None ≡ option_map (λ (f : Finish). f.ended) (answer (left a.now blocks))) → Quits script host mid last a.p2 →
+    Stands script host last (work_told script host p reply p.work)
+stands-quit script host mid last p reply a quits ends q =
+    let bs = first_blocks script a.p2.jobs in
+    let stop = stop-some a.steps a.still (open-left script host mid p reply a ends) in
+    subst (λ (r : Progress). Stands script host last r) (sym (a.takes_it ∙ steps-quit script host a.p2 a.steps stop.0 quits stop.1))
+    (q a.now bs stop.0 a.in_hand (ap stopped (sym a.left_is) ∙ stop.1))
+
 -- or it has ended
-pub ends-as : (script : Script) (host : HostNo) (mid : Host) (p : Progress) (call : Call) (a : Advanced script host mid p call) (ended : Ended) (read : List Content) →
+pub ends-as : (script : Script) (host : HostNo) (mid : Host) (p : Progress) (reply : Reply) (a : Advanced script host mid p reply) (ended : Ended) (read : List Content) →
     ((blocks : List (List ℕ)) → Some ended ≡ option_map (λ (f : Finish). f.ended) (answer (left a.now blocks))) →
     ((blocks : List (List ℕ)) → read ≡ contents_in (answer (left a.now blocks))) →
-    takes script host p call ≡ attempt_ended script host a.p2 read ended
-ends-as script host mid p call a ended read ends reads =
+    work_told script host p reply p.work ≡ attempt_ended script host a.p2 read ended
+ends-as script host mid p reply a ended read ends reads =
     let bs = first_blocks script a.p2.jobs in
     a.takes_it ∙ go (answer (left a.now bs)) (ap answer a.left_is) (ends bs) (reads bs)
   where
@@ -195,12 +229,12 @@ ends-as script host mid p call a ended read ends reads =
 
 -- what a host asks, read off its code
 pub sent-is : (script : Script) (host : HostNo) (now : Host) (p : Progress) (moment : ℕ) → Stands script host now p →
-    asks host p moment ≡ sent_by now.no now.clock moment (work_errand (work_of now.script.now (drop now.job now.jobs.now) now.attempt))
+    asks host p moment ≡ sent_by now.no now.clock moment (work_errand (work_of now.script.now (drop now.job now.jobs.now) now.duty))
 sent-is script host now p moment s =
     let c = s.counts in
     let jobs : p.jobs ≡ drop now.job now.jobs.now = c.jobs ∙ ap (drop now.job) (sym c.listed) in
-    let work : p.work ≡ work_of now.script.now (drop now.job now.jobs.now) now.attempt =
-    s.work ∙ ap (λ (js : List Job). work_of script js now.attempt) jobs ∙ ap (λ (x : Script). work_of x (drop now.job now.jobs.now) now.attempt) (sym c.plays) in
+    let work : p.work ≡ work_of now.script.now (drop now.job now.jobs.now) now.duty =
+    s.work ∙ ap (λ (js : List Job). work_of script js now.duty) jobs ∙ ap (λ (x : Script). work_of x (drop now.job now.jobs.now) now.duty) (sym c.plays) in
     ap (λ (h : HostNo). sent_by h p.clock moment (work_errand p.work)) (sym c.number)
     ∙ ap (λ (k : ℕ). sent_by now.no k moment (work_errand p.work)) c.clock
     ∙ ap (λ (w : Work). sent_by now.no now.clock moment (work_errand w)) work
@@ -221,35 +255,50 @@ sent-once now moment sent other s o = cc
 
 -- what an ended attempt may report
 module _ (script : Script) (host : HostNo) (p : Progress) (requests most : ℕ) (reply : Reply) where
-  keeps-finish : (jobs : List Job) (s : Steps Finish) (f : Finish) → KeepsSteps script jobs p.tries requests s → FitsNext (next_errand s) reply →
-      answer (told host (record { seen = p.seen; steps = s }) reply).steps ≡ Some f → IsPlainEnd f.ended × (length f.contents ≤ sum_by job_contents jobs)
+  keeps-finish : (jobs : List Job) (s : Steps Finish) (f : Finish) → KeepsSteps script jobs p.row p.tries requests s → FitsNext (next_errand s) reply →
+      answer (told host (record { seen = p.seen; steps = s }) reply).steps ≡ Some f → length f.contents ≤ sum_by job_contents jobs
   keeps-finish [] s f k fits is = absurd k
   keeps-finish (job ∷ jobs) s f k fits is =
-      let less = obeys-told (IsWithin script.n script.rows) (IsPlainFinish (job_contents job)) k.0 host (record { seen = p.seen; steps = s }) reply k.2 fits in
-      let fine : IsPlainFinish (job_contents job) f = obeys-answer (IsWithin script.n script.rows) (IsPlainFinish (job_contents job)) less.0 _ f less.2 is in
-      (fine.ended, omega (arith, fine.contents, sum_by-cons job_contents job jobs))
+      let less = obeys-told (IsWithin script.n script.rows) (IsFinish script job.task) k.0 host (record { seen = p.seen; steps = s }) reply k.2 fits in
+      let fine : IsFinish script job.task f = obeys-answer (IsWithin script.n script.rows) (IsFinish script job.task) less.0 _ f less.2 is in
+      let few : length f.contents ≤ job_contents job = read-most script job.task f fine in
+      omega (arith, few, sum_by-cons job_contents job jobs)
 
   pub finish-within : (keeps : Keeps script p requests most) (s : Steps Finish) (f : Finish) → p.work ≡ Trying s → FitsNext (work_errand p.work) reply →
       answer (told host (record { seen = p.seen; steps = s }) reply).steps ≡ Some f →
-      IsPlainEnd f.ended × (length (contents_of p.endings) + length f.contents ≤ most)
+      length (contents_of p.endings) + length f.contents ≤ most
   finish-within keeps s f work fits is =
-      let kept : KeepsSteps script p.jobs p.tries requests s = subst (KeepsWork script p.jobs p.tries requests) work keeps.work in
+      let kept : KeepsSteps script p.jobs p.row p.tries requests s = subst (KeepsWork script p.jobs p.row p.tries requests) work keeps.work in
       let fits' : FitsNext (next_errand s) reply = subst (λ (w : Work). FitsNext (work_errand w) reply) work fits in
-      let fine = keeps-finish p.jobs s f kept fits' is in
-      (fine.0, omega (arith, fine.1, keeps.reads))
+      let few = keeps-finish p.jobs s f kept fits' is in
+      omega (arith, few, keeps.reads)
 
-  keeps-first : (jobs : List Job) (s : Steps Finish) → KeepsSteps script jobs p.tries requests s → FitsNext (next_errand s) reply →
-      (0 < length jobs) × IsOk (first_parts script jobs) × (1 ≤ requests)
+  keeps-first : (jobs : List Job) (s : Steps Finish) → KeepsSteps script jobs p.row p.tries requests s → FitsNext (next_errand s) reply →
+      (0 < length jobs) × FirstTried script jobs × (1 ≤ requests)
   keeps-first [] s k fits = absurd k
   keeps-first (job ∷ jobs) s k fits =
-      let less = obeys-told (IsWithin script.n script.rows) (IsPlainFinish (job_contents job)) k.0 host (record { seen = p.seen; steps = s }) reply k.2 fits in
+      let less = obeys-told (IsWithin script.n script.rows) (IsFinish script job.task) k.0 host (record { seen = p.seen; steps = s }) reply k.2 fits in
       (omega arith, k.1, omega (arith, less.1, k.3))
 
   -- the job in hand
   pub first-within : (keeps : Keeps script p requests most) (s : Steps Finish) → p.work ≡ Trying s → FitsNext (work_errand p.work) reply →
-      (0 < length p.jobs) × IsOk (first_parts script p.jobs) × (1 ≤ requests)
+      (0 < length p.jobs) × FirstTried script p.jobs × (1 ≤ requests)
   first-within keeps s work fits =
-      keeps-first p.jobs s (subst (KeepsWork script p.jobs p.tries requests) work keeps.work) (subst (λ (w : Work). FitsNext (work_errand w) reply) work fits)
+      keeps-first p.jobs s (subst (KeepsWork script p.jobs p.row p.tries requests) work keeps.work) (subst (λ (w : Work). FitsNext (work_errand w) reply) work fits)
+
+  device-within : (jobs : List Job) (bay : BayNo) → KeepsDevice script jobs requests bay → (0 < length jobs) × (1 ≤ requests)
+  device-within [] bay k = absurd k
+  device-within (job ∷ jobs) bay k = (omega arith, omega (arith, k.1))
+
+  work-within : (w : Work) → KeepsWork script p.jobs p.row p.tries requests w → FitsNext (work_errand w) reply → (0 < length p.jobs) × (1 ≤ requests)
+  work-within (Trying s) k fits = let e = keeps-first p.jobs s k fits in (e.0, e.2)
+  work-within (Losing bay) k fits = device-within p.jobs bay k
+  work-within (Fitting bay) k fits = device-within p.jobs bay k
+  work-within Over k fits = absurd fits
+
+  -- a host that asks has a job in hand and a request left
+  pub some-within : (keeps : Keeps script p requests most) → FitsNext (work_errand p.work) reply → (0 < length p.jobs) × (1 ≤ requests)
+  some-within keeps fits = work-within p.work keeps.work fits
 
 -- a host that has asked hands its request out
 pub next-some : (now : Host) (moment : ℕ) (given : Answer) (r : CanTake now moment given) (result : Option (BayNo × Ask)) →
@@ -281,86 +330,178 @@ noted-call before after given bay ask sent noted same =
     noted ∙ ap (λ (b : BayNo). before ++ record { bay = b; ask = ask; answer = given } ∷ []) same.0
     ∙ ap (λ (a : Ask). before ++ record { bay = sent.bay; ask = a; answer = given } ∷ []) same.1
 
--- the attempt goes on
-pub takes-on : (old noted mid : Host) (moment : ℕ) (given : Answer) (ended : Option Ended) (sent : Sent) →
-    IsNoted old noted given.clock → Told noted mid given.reply ended → ended ≡ None → are_plain mid.jobs.now ≡ true →
-    noted.transcript.items ≡ old.transcript.items ++ record { bay = sent.bay; ask = sent.ask; answer = given } ∷ [] →
-    vec_capacity noted.transcript ≡ vec_capacity old.transcript →
-    Takes old mid moment given sent
-unfolding advances
-takes-on old noted mid moment given ended sent n t none plain items room = record {
-  call = ap (λ (v : _). v.items) t.transcript ∙ items;
-  calls = ap vec_capacity t.transcript ∙ room;
-  reads = let same = ap vec_capacity (t.contents ∙ n.contents) in omega arith;
-  stands = λ script host p s.
-      let call : Call = record { bay = sent.bay; ask = sent.ask; answer = given } in
-      let a = advances script host old noted mid p call ended s n t in
-      stands-on script host mid p call a plain (λ blocks. sym none ∙ t.ends blocks);
-}
+-- a call was counted
+pub stands-noted : (script : Script) (host : HostNo) (old mid : Host) (p : Progress) (call : Call) → Stands script host old p → IsNoted old mid call.answer.clock →
+    Stands script host mid (call_counted p call)
+stands-noted script host old mid p call s n =
+    let c = s.counts in
+    record {
+      counts = record {
+        number = n.number ∙ c.number;
+        plays = ap (λ (s : _). s.now) n.plays ∙ c.plays;
+        listed = ap (λ (s : _). s.now) n.listed ∙ c.listed;
+        place = c.place ∙ sym n.job;
+        jobs = c.jobs ∙ ap (λ k. drop k (jobs_of script host)) (sym n.job);
+        asked = ap (λ k. k + 1) c.asked ∙ sym n.asked;
+        tries = c.tries ∙ sym n.tries;
+        row = c.row ∙ sym n.row;
+        gone = c.gone ∙ sym n.gone;
+        draws = ap (λ (x : Numbers). x.host) n.numbers ∙ c.draws;
+        seen = c.seen ∙ sym (ap (λ (x : Numbers). x.seen) n.numbers);
+        clock = sym n.clock_is;
+        results = ap (λ (v : _). v.items) n.results ∙ c.results;
+        contents = ap (λ (v : _). v.items) n.contents ∙ c.contents;
+      };
+      work = s.work ∙ ap (work_of script p.jobs) (sym n.duty);
+      suits = subst (λ (o : Option Duty). SuitsWork o (first_blocks script p.jobs)) (sym n.duty) s.suits;
+    }
 
--- or it has ended
-pub takes-end : (old noted mid last : Host) (moment : ℕ) (given : Answer) (result : Option Ended) (ended : Ended) (read : List Content) (sent : Sent) →
-    IsNoted old noted given.clock → (t : Told noted mid given.reply result) → result ≡ Some ended →
-    ((blocks : List (List ℕ)) → read ≡ contents_in (answer (left t.now blocks))) →
+-- it may be told the reply
+pub may-hear : (old mid : Host) (moment : ℕ) (given : Answer) (r : CanTake old moment given) (call : Call) → call.answer ≡ given → IsNoted old mid given.clock → CanHear mid given.reply
+may-hear old mid moment given r call is n =
+    let k = r.keeps in
+    let same = ap vec_capacity n.contents in
+    record {
+      script = r.script;
+      host = r.host;
+      p = call_counted r.p call;
+      requests = r.requests;
+      contents = r.contents;
+      stands = stands-noted r.script r.host old mid r.p call r.stands (subst (λ (a : Answer). IsNoted old mid a.clock) (sym is) n);
+      keeps = record { aims = k.aims; tries = k.tries; row = k.row; work = k.work; reads = k.reads };
+      asked = r.asked;
+      reads = omega (arith, r.reads, same);
+    }
+
+-- all that a call does
+pub takes-all : (old noted last : Host) (moment : ℕ) (given : Answer) (sent : Sent) → IsNoted old noted given.clock →
     noted.transcript.items ≡ old.transcript.items ++ record { bay = sent.bay; ask = sent.ask; answer = given } ∷ [] →
-    vec_capacity noted.transcript ≡ vec_capacity old.transcript →
-    last.transcript ≡ mid.transcript → vec_capacity mid.contents ≤ vec_capacity last.contents →
-    ((script : Script) (host : HostNo) (p : Progress) → Counts script host mid p → Stands script host last (attempt_ended script host p read ended)) →
+    vec_capacity noted.transcript ≡ vec_capacity old.transcript → KeepsRoom noted last →
+    ((script : Script) (host : HostNo) (p : Progress) → Stands script host noted p → Stands script host last (work_told script host p given.reply p.work)) →
     Takes old last moment given sent
-unfolding advances
-takes-end old noted mid last moment given result ended read sent n t some reads items room kept more stands = record {
-  call = ap (λ (v : _). v.items) (kept ∙ t.transcript) ∙ items;
-  calls = ap vec_capacity (kept ∙ t.transcript) ∙ room;
-  reads = let same = ap vec_capacity (t.contents ∙ n.contents) in omega arith;
+takes-all old noted last moment given sent n items room kept stands = record {
+  call = ap (λ (v : _). v.items) kept.transcript ∙ items;
+  calls = ap vec_capacity kept.transcript ∙ room;
+  reads = let same = ap vec_capacity n.contents in omega (arith, same, kept.contents);
   stands = λ script host p s.
       let call : Call = record { bay = sent.bay; ask = sent.ask; answer = given } in
-      let a = advances script host old noted mid p call result s n t in
-      let is = ends-as script host mid p call a ended read (λ blocks. sym some ∙ t.ends blocks) reads in
-      subst (λ (q : Progress). Stands script host last q) (sym is) (stands script host a.p2 a.counts);
+      stands script host (call_counted p call) (stands-noted script host old noted p call s n);
 }
 
 -- what an ended attempt needs
-within-at : (script : Script) (host : HostNo) (old mid : Host) (p : Progress) (requests contents : ℕ) (call : Call) (a : Advanced script host mid p call) (ended : Ended) (read : List Content) →
-    Keeps script p requests contents → FitsNext (work_errand p.work) call.answer.reply → contents ≤ vec_capacity mid.contents →
+within-at : (script : Script) (host : HostNo) (mid : Host) (p : Progress) (requests contents : ℕ) (reply : Reply) (a : Advanced script host mid p reply) (ended : Ended) (read : List Content) →
+    Keeps script p requests contents → FitsNext (work_errand p.work) reply → contents ≤ vec_capacity mid.contents →
     (o : Option Finish) → answer a.steps ≡ o → Some ended ≡ option_map (λ (f : Finish). f.ended) o → read ≡ contents_in o →
-    IsPlainEnd ended × (vec_len mid.contents + length read ≤ vec_capacity mid.contents)
-within-at script host old mid p requests contents call a end read keeps fits room None is e c = cc
-within-at script host old mid p requests contents call a end read keeps fits room (Some f) is e c =
-    let same : f.ended ≡ end = cc in
-    let fine = finish-within script host p requests contents call.answer.reply keeps a.before f a.worked fits (ap answer (sym a.told_is) ∙ is) in
+    vec_len mid.contents + length read ≤ vec_capacity mid.contents
+within-at script host mid p requests contents reply a end read keeps fits room None is e c = cc
+within-at script host mid p requests contents reply a end read keeps fits room (Some f) is e c =
+    let fine = finish-within script host p requests contents reply keeps a.before f a.worked fits (ap answer (sym a.told_is) ∙ is) in
     let len : vec_len mid.contents ≡ length (contents_of p.endings) = mid.contents.ok.0 ∙ ap length a.counts.contents ∙ ap (λ (es : List Ending). length (contents_of es)) a.same_endings in
-    (subst IsPlainEnd same fine.0, omega (arith, len, ap length c, fine.1, room))
+    omega (arith, len, ap length c, fine, room)
 
-pub end-within : (old noted mid : Host) (moment : ℕ) (given : Answer) (r : CanTake old moment given) (result : Option Ended) (ended : Ended) (read : List Content) →
-    IsNoted old noted given.clock → (t : Told noted mid given.reply result) → result ≡ Some ended →
+pub end-within : (old mid : Host) (reply : Reply) (r : CanHear old reply) (result : Option Ended) (ended : Ended) (read : List Content) →
+    (t : Told old mid reply result) → result ≡ Some ended →
     ((blocks : List (List ℕ)) → read ≡ contents_in (answer (left t.now blocks))) →
-    IsPlainEnd ended × (vec_len mid.contents + length read ≤ vec_capacity mid.contents)
+    vec_len mid.contents + length read ≤ vec_capacity mid.contents
 unfolding advances
-end-within old noted mid moment given r result ended read n t some reads =
-    let call : Call = record { bay = record { 0 = 0 }; ask = record { host = r.host; clock = 0; moment = 0; what = Lose }; answer = given } in
-    let a = advances r.script r.host old noted mid r.p call result r.stands n t in
+end-within old mid reply r result ended read t some reads =
+    let a = advances r.script r.host old mid r.p reply result r.stands t in
     let bs = first_blocks r.script r.p.jobs in
-    within-at r.script r.host old mid r.p r.requests r.contents call a ended read r.keeps r.asked
-    (let same = ap vec_capacity (t.contents ∙ n.contents) in omega (arith, r.reads)) (answer (left t.now bs)) (ap answer a.left_is) (sym some ∙ t.ends bs) (reads bs)
+    within-at r.script r.host mid r.p r.requests r.contents reply a ended read r.keeps r.asked
+    (let same = ap vec_capacity t.contents in omega (arith, same, r.reads)) (answer (left t.now bs)) (ap answer a.left_is) (sym some ∙ t.ends bs) (reads bs)
 
 -- the attempt that was in hand
-pub in-hand : (taken before : Option Attempt) (a b : Attempt) → taken ≡ Some a → taken ≡ before → before ≡ Some b → a ≡ b
+pub in-hand : (taken before : Option Duty) (a b : Attempt) → taken ≡ Some (duties.Trying a) → taken ≡ before → before ≡ Some (duties.Trying b) → a ≡ b
 in-hand taken before a b x y z = cc
 
-pub counts-idle : (script : Script) (host : HostNo) (old new : Host) (p : Progress) → Counts script host old p →
-    new.no ≡ old.no → new.script ≡ old.script → new.jobs ≡ old.jobs → new.job ≡ old.job → new.tries ≡ old.tries → new.numbers ≡ old.numbers → new.clock ≡ old.clock →
-    new.results ≡ old.results → new.contents ≡ old.contents → Counts script host new p
-counts-idle script host old new p c number plays listed job tries numbers clock results contents = record {
-  number = number ∙ c.number;
-  plays = ap (λ (s : _). s.now) plays ∙ c.plays;
-  listed = ap (λ (s : _). s.now) listed ∙ c.listed;
-  place = c.place ∙ sym job;
-  jobs = c.jobs ∙ ap (λ k. drop k (jobs_of script host)) (sym job);
-  tries = c.tries ∙ sym tries;
-  row = c.row;
-  draws = ap (λ (x : Numbers). x.host) numbers ∙ c.draws;
-  seen = c.seen ∙ sym (ap (λ (x : Numbers). x.seen) numbers);
-  clock = c.clock ∙ sym clock;
-  results = ap (λ (v : _). v.items) results ∙ c.results;
-  contents = ap (λ (v : _). v.items) contents ∙ c.contents;
-}
+-- what code needs to know of the job in hand
+pub record Needs (now : Host) : Type 0 where
+  pub job : now.job < length now.jobs.now
+  pub tries : now.tries ≤ now.script.now.tries
+  pub row : now.row < now.script.now.rows
+
+needs-of : (script : Script) (host : HostNo) (now : Host) (p : Progress) → Counts script host now p → 0 < length p.jobs → p.tries ≤ script.tries → p.row < script.rows → Needs now
+needs-of script host now p c some tries row =
+    let jobs = ap length c.jobs in
+    let listed = ap length c.listed in
+    let left = length-drop now.job (jobs_of script host) in
+    let most = ap (λ (s : Script). s.tries) c.plays in
+    let rows = ap (λ (s : Script). s.rows) c.plays in
+    record {
+      job = omega (arith, jobs, listed, left, some);
+      tries = omega (arith, c.tries, most, tries);
+      row = omega (arith, c.row, rows, row);
+    }
+
+tried-of : (script : Script) (host : HostNo) (now : Host) (p : Progress) → Counts script host now p → FirstTried script p.jobs → FirstTried now.script.now (drop now.job now.jobs.now)
+tried-of script host now p c tried =
+    let jobs : p.jobs ≡ drop now.job now.jobs.now = c.jobs ∙ ap (drop now.job) (sym c.listed) in
+    subst (λ (s : Script). FirstTried s (drop now.job now.jobs.now)) (sym c.plays) (subst (λ (js : List Job). FirstTried script js) jobs tried)
+
+-- a host that may be told a reply
+pub hear-needs : (now : Host) (reply : Reply) → CanHear now reply → Needs now
+hear-needs now reply r =
+    needs-of r.script r.host now r.p r.stands.counts (some-within r.script r.host r.p r.requests r.contents reply r.keeps r.asked).0 r.keeps.tries r.keeps.row
+
+pub hear-asked : (now : Host) (reply : Reply) → CanHear now reply → FitsNext (work_errand (work_of now.script.now (drop now.job now.jobs.now) now.duty)) reply
+hear-asked now reply r =
+    let c = r.stands.counts in
+    let jobs : r.p.jobs ≡ drop now.job now.jobs.now = c.jobs ∙ ap (drop now.job) (sym c.listed) in
+    let work : r.p.work ≡ work_of now.script.now (drop now.job now.jobs.now) now.duty =
+    r.stands.work ∙ ap (λ (js : List Job). work_of r.script js now.duty) jobs ∙ ap (λ (x : Script). work_of x (drop now.job now.jobs.now) now.duty) (sym c.plays) in
+    subst (λ (w : Work). FitsNext (work_errand w) reply) work r.asked
+
+pub hear-suits : (now : Host) (reply : Reply) → CanHear now reply → SuitsWork now.duty (first_blocks now.script.now (drop now.job now.jobs.now))
+hear-suits now reply r =
+    subst (λ (bs : List (List ℕ)). SuitsWork now.duty bs) (sym (blocks-same r.script r.host now now r.p r.stands.counts refl refl refl)) r.stands.suits
+
+-- one whose attempt has ended
+pub end-needs : (old mid : Host) (reply : Reply) (r : CanHear old reply) (result : Option Ended) (t : Told old mid reply result) →
+    Needs mid × FirstTried mid.script.now (drop mid.job mid.jobs.now)
+unfolding advances
+end-needs old mid reply r result t =
+    let a = advances r.script r.host old mid r.p reply result r.stands t in
+    let first = first-within r.script r.host r.p r.requests r.contents reply r.keeps a.before a.worked r.asked in
+    (needs-of r.script r.host mid a.p2 a.counts first.0 r.keeps.tries r.keeps.row, tried-of r.script r.host mid a.p2 a.counts first.1)
+
+-- the attempt in hand goes on
+pub open-asking : (mid : Host) (t : Attempt) → mid.duty ≡ Some (duties.Trying t) → ((blocks : List (List ℕ)) → None ≡ option_map (λ (f : Finish). f.ended) (answer (left t blocks))) → IsAsking mid
+open-asking mid t in_hand ends = (t, in_hand, λ blocks. by (answer (left t blocks)) (ends blocks))
+  where
+    by : (o : Option Finish) → None ≡ option_map (λ (f : Finish). f.ended) o → o ≡ None
+    by None e = refl
+    by (Some f) e = cc
+
+-- a host that may take an answer has room for its call
+pub take-room : (now : Host) (moment : ℕ) (given : Answer) → CanTake now moment given → vec_len now.transcript < vec_capacity now.transcript
+take-room now moment given r =
+    let some = (some-within r.script r.host r.p r.requests r.contents given.reply r.keeps r.asked).1 in
+    omega (arith, some, r.calls)
+
+-- how its attempt ended is said of any blocks
+pub open-ends : (t : Attempt) (result : Option Ended) → result ≡ None → ((blocks : List (List ℕ)) → result ≡ option_map (λ (f : Finish). f.ended) (answer (left t blocks))) →
+    (blocks : List (List ℕ)) → None ≡ option_map (λ (f : Finish). f.ended) (answer (left t blocks))
+open-ends t result none ends blocks = sym none ∙ ends blocks
+
+-- where the host stops its job ends as its attempt does
+pub quits-as : (script : Script) (host : HostNo) (last : Host) (p : Progress) (t held : Attempt) (blocks : List (List ℕ)) (stop given : Ended) (tries : ℕ) (says : JobEnd) →
+    Some (duties.Trying held) ≡ Some (duties.Trying t) → Some given ≡ stopped (left held blocks) → stopped (left t blocks) ≡ Some stop → says ≡ quit_end tries given → p.tries ≡ tries →
+    Counts script host last (next_job (with_ending p says [])) → last.duty ≡ None → Stands script host last (record (next_job (with_ending p (quit_end p.tries stop) [])) { work = Over })
+quits-as script host last p t held blocks stop given tries says same is_given is_stop is_end counted c none =
+    let one : held ≡ t = cc in
+    let stops_so : Some given ≡ Some stop = is_given ∙ ap (λ (a : Attempt). stopped (left a blocks)) one ∙ is_stop in
+    let gives : given ≡ stop = cc in
+    let is : says ≡ quit_end p.tries stop = is_end ∙ ap (quit_end tries) gives ∙ ap (λ (k : ℕ). quit_end k stop) (sym counted) in
+    subst (λ (e : JobEnd). Stands script host last (record (next_job (with_ending p e [])) { work = Over })) is
+    (stopped-stands script host last (next_job (with_ending p says [])) c none)
+
+-- a device was lost, or another was fitted for it
+pub loses-as : (script : Script) (host : HostNo) (mid last : Host) (p : Progress) (reply : Reply) (bay : BayNo) → Stands script host mid p → mid.duty ≡ Some (duties.Losing bay) →
+    Stands script host last (job_ended script host (record p { gone = Some (record { bay = bay; fitted = false }) }) job_ends.Lost []) → Stands script host last (work_told script host p reply p.work)
+loses-as script host mid last p reply bay s is e =
+    subst (λ (w : Work). Stands script host last (work_told script host p reply w)) (sym (s.work ∙ ap (work_of script p.jobs) is)) e
+
+pub fits-as : (script : Script) (host : HostNo) (mid last : Host) (p : Progress) (reply : Reply) (bay : BayNo) → Stands script host mid p → mid.duty ≡ Some (duties.Fitting bay) →
+    Stands script host last (job_ended script host (record p { gone = Some (record { bay = bay; fitted = true }) }) job_ends.Fitted []) → Stands script host last (work_told script host p reply p.work)
+fits-as script host mid last p reply bay s is e =
+    subst (λ (w : Work). Stands script host last (work_told script host p reply w)) (sym (s.work ∙ ap (work_of script p.jobs) is)) e

@@ -1,13 +1,16 @@
 -- What every history keeps to.
 use Rattle.std.specs.Prelude.{◌-◌, ◌≤◌, List, length, sum_by, All}
-use Rattle.std.specs.List.{Contains}
+use Rattle.std.specs.List.{Contains, AllByRecursion}
 use Rattle.raid_base.specs.declared.numbers.HostNo.{HostNo}
 use Rattle.raid_base.specs.declared.numbers.BayNo.{BayNo}
 use Rattle.raid_base.specs.declared.messages.Call.{Call}
 use Rattle.script_text.specs.Script.{Script, host_numbers}
-use Rattle.host_engine.specs.History.{progress_at, transcript, journal, clock_at}
+use Rattle.script_text.specs.Ranges.{IsScript}
+use Rattle.host_engine.specs.Progress.{Ending}
+use Rattle.host_engine.specs.History.{progress_at, transcript, journal, clock_at, endings_at, IsHistory}
 use Rattle.host_engine.specs.Asked.{AreAsked}
 use Rattle.host_engine.specs.Bounds.{Keeps, IsPlayable, host_requests, host_contents}
+use Rattle.host_engine.specs.Causes.{MeetsCause}
 
 -- a history with no more calls than its script's jobs may need, and with clocks that count calls
 pub record IsBounded (script : Script) (history : List Call) : Type 0 where
@@ -20,6 +23,11 @@ pub record IsBounded (script : Script) (history : List Call) : Type 0 where
   pub host_clocks : (host : HostNo) → (progress_at script host history).clock ≤ length history
   pub answers : All (λ (call : Call). call.answer.clock ≤ length history) history
 
--- Every history of a script of plain jobs in which each call is the next of its host is bounded by the jobs.
+-- Every history in which each call is the next of its host is bounded by the script's jobs.
 abbrev pub RequestsAreBounded : Type 0
 RequestsAreBounded = (script : Script) (history : List Call) → IsPlayable script → AreAsked script history → IsBounded script history
+
+-- Along every history of a script each result that gives a cause has it.
+abbrev pub CausesAreMet : Type 0
+CausesAreMet = (script : Script) (history : List Call) → IsScript script → IsHistory script history → (host : HostNo) →
+    AllByRecursion (λ (e : Ending). MeetsCause script host e e.ended) (endings_at script history host)

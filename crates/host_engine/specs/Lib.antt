@@ -1,4 +1,5 @@
 pub mod Calls
+pub mod Operator
 pub mod Progress
 pub mod History
 pub mod Torn
@@ -10,3 +11,7 @@ pub mod Bounds
 pub mod Stands
 pub mod Asked
 pub mod HostLaws
+pub mod Quotas
+pub mod Endings
+pub mod Ready
+pub mod Smallness

@@ -1,5 +1,5 @@
--- Jobs that read or write and never stop their host.
-use Rattle.std.specs.Prelude.{◌≡◌, ℕ, ◌+◌, ◌^◌, nat_le, nat_lt, Bool, true, false, ◌&&◌, List, [], ◌∷◌, Option, Some, None, is_none, Result, Err}
+-- What the jobs of a script are, and what code needs to know of them.
+use Rattle.std.specs.Prelude.{◌≡◌, ℕ, ◌+◌, ◌^◌, ◌<◌, nat_le, nat_lt, Bool, true, false, ◌&&◌, List, [], ◌∷◌, Option, Some, None, Result, Err, IsOk}
 use Rattle.std.specs.List.{list_all}
 use Rattle.raid_base.specs.declared.jobs.Job.{Job}
 use Rattle.raid_base.specs.declared.jobs.Task.{Task}
@@ -16,6 +16,7 @@ use Rattle.attempts.specs.Parts.{blocks_in}
 use Rattle.virtual_objects.specs.RowParts.{AreRowParts}
 use Rattle.script_text.specs.Script.{Script, parts_of, blocks_of}
 
+-- a read or a write
 abbrev pub is_plain_task : Task → Bool
 is_plain_task (tasks.Read object first count) = true
 is_plain_task (tasks.Write object first from count) = true
@@ -23,12 +24,6 @@ is_plain_task (tasks.Recover row) = false
 is_plain_task (tasks.Lose bay) = false
 is_plain_task (tasks.Fit bay) = false
 is_plain_task (tasks.Rebuild bay) = false
-
-abbrev pub is_plain_job : Job → Bool
-is_plain_job job = is_plain_task job.task && is_none job.quit
-
-abbrev pub are_plain : List Job → Bool
-are_plain jobs = list_all is_plain_job jobs
 
 -- the rows and units of a read or write
 abbrev pub task_parts : Script → Task → Result (List RowPart) PartsFault
@@ -53,10 +48,19 @@ abbrev pub first_blocks : Script → List Job → List (List ℕ)
 first_blocks script [] = []
 first_blocks script (job ∷ jobs) = task_blocks script job.task
 
--- the parts of the job in hand
-abbrev pub first_parts : Script → List Job → Result (List RowPart) PartsFault
-first_parts script [] = Err NoObject
-first_parts script (job ∷ jobs) = task_parts script job.task
+-- a task that is done by attempts: a read or a write that has parts, a recovery, or a rebuild of a bay that there is
+abbrev pub IsTried : Script → Task → Type 0
+IsTried script (tasks.Read object first count) = IsOk (parts_of script object first count)
+IsTried script (tasks.Write object first from count) = IsOk (parts_of script object first count)
+IsTried script (tasks.Recover row) = Unit {0}
+IsTried script (tasks.Lose bay) = ⊥
+IsTried script (tasks.Fit bay) = ⊥
+IsTried script (tasks.Rebuild bay) = bay.0 < script.n
+
+-- the job in hand is
+abbrev pub FirstTried : Script → List Job → Type 0
+FirstTried script [] = ⊥
+FirstTried script (job ∷ jobs) = IsTried script job.task
 
 -- a reply that fits what comes next
 abbrev pub FitsNext : Option Errand → Reply → Type 0
@@ -108,3 +112,15 @@ is_held_task blocks (tasks.Rebuild bay) = true
 
 abbrev pub are_held : ℕ → List Job → Bool
 are_held blocks jobs = list_all (λ (job : Job). is_held_task blocks job.task) jobs
+
+-- a rebuild is of one of so many bays
+abbrev pub is_aimed_task : ℕ → Task → Bool
+is_aimed_task n (tasks.Read object first count) = true
+is_aimed_task n (tasks.Write object first from count) = true
+is_aimed_task n (tasks.Recover row) = true
+is_aimed_task n (tasks.Lose bay) = true
+is_aimed_task n (tasks.Fit bay) = true
+is_aimed_task n (tasks.Rebuild bay) = nat_lt bay.0 n
+
+abbrev pub are_aimed : ℕ → List Job → Bool
+are_aimed n jobs = list_all (λ (job : Job). is_aimed_task n job.task) jobs

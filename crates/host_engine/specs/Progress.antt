@@ -1,5 +1,5 @@
 -- How one host goes on through its jobs.
-use Rattle.std.specs.Prelude.{ℕ, ◌+◌, ◌==◌, not, ◌&&◌, ◌||◌, Bool, true, false, List, [], ◌∷◌, ◌++◌, drop, Option, Some, None, Result, Ok, Err}
+use Rattle.std.specs.Prelude.{ℕ, ◌+◌, ◌==◌, ◌||◌, Bool, true, false, List, [], ◌∷◌, ◌++◌, drop, Option, Some, None, Result, Ok, Err}
 use Rattle.raid_base.specs.declared.numbers.HostNo.{HostNo}
 use Rattle.raid_base.specs.declared.numbers.BayNo.{BayNo}
 use Rattle.raid_base.specs.declared.numbers.Number.{Number}
@@ -30,11 +30,8 @@ use Rattle.attempts.specs.Writing.{write_steps}
 use Rattle.attempts.specs.Mending.{mend_steps}
 use Rattle.attempts.specs.Recovery.{recover_steps}
 use Rattle.script_text.specs.Script.{Script, jobs_of, parts_of, blocks_of}
-
--- the device that the operator lost, and whether it was fitted since
-pub record Gone : Type 0 where
-  pub bay : BayNo
-  pub fitted : Bool
+use Rattle.host_engine.specs.declared.operator.Gone.{Gone}
+use Rattle.host_engine.specs.Operator.{is_gone}
 
 -- what a host has in hand: an attempt, or a request that is a job of its own, or nothing any more
 pub data Work : Type 0 where
@@ -137,11 +134,6 @@ abbrev pub lose_job : (Progress → Progress) → Progress → BayNo → Option 
 lose_job rest p bay None = record p { work = Losing bay }
 lose_job rest p bay (Some gone) = ends_as rest p (job_ends.StillMissing gone.bay)
 
-abbrev pub is_gone : BayNo → Bool → Option Gone → Bool
-is_gone bay fitted None = false
-is_gone bay true (Some gone) = (gone.bay.0 == bay.0) && gone.fitted
-is_gone bay false (Some gone) = (gone.bay.0 == bay.0) && not gone.fitted
-
 abbrev pub fit_job : (Progress → Progress) → Progress → BayNo → Bool → Progress
 fit_job rest p bay true = record p { work = Fitting bay }
 fit_job rest p bay false = ends_as rest p (job_ends.NotLost bay)
@@ -184,7 +176,7 @@ stops p = job_stops p.jobs p.asked
 
 -- after a result the host stops for good, or goes on with its next job
 abbrev pub go_on : Script → HostNo → Progress → Bool → Progress
-go_on script host p true = record p { work = Over }
+go_on script host p true = record (next_job p) { work = Over }
 go_on script host p false = start_jobs script host (drop 1 p.jobs) (next_job p)
 
 abbrev pub job_ended : Script → HostNo → Progress → JobEnd → List Content → Progress
@@ -228,7 +220,7 @@ attempt_ended script host p contents ends.Mended = row_mended script host p (p.r
 attempt_ended script host p contents (ends.Refused cause) =
     attempt_refused script host p cause ((p.tries == script.tries) || is_spent cause)
 
--- how a job ends whose attempt was not at its end
+-- how a job ends whose attempt was not at its end when the host stopped
 abbrev pub quit_end : ℕ → Ended → JobEnd
 quit_end tries (ends.Read n) = job_ends.Read n
 quit_end tries (ends.Wrote n) = job_ends.Wrote n
@@ -238,7 +230,7 @@ quit_end tries ends.Mended = job_ends.Gave tries causes.Quit
 quit_end tries (ends.Refused cause) = job_ends.Gave tries causes.Quit
 
 abbrev pub asks_on : Progress → Steps Finish → Ended → Bool → Progress
-asks_on p steps stop true = record (with_ending p (quit_end p.tries stop) []) { work = Over }
+asks_on p steps stop true = record (next_job (with_ending p (quit_end p.tries stop) [])) { work = Over }
 asks_on p steps stop false = record p { work = Trying steps }
 
 abbrev pub steps_left : Script → HostNo → Progress → Steps Finish → Progress

@@ -12,14 +12,16 @@ use Rattle.raid_base.specs.declared.jobs.Task.{Task}
 use Rattle.raid_base.specs.declared.cells.Content.{Content}
 use Rattle.raid_base.specs.declared.messages.Reply.{Reply}
 use Rattle.raid_base.specs.declared.jobs.Ended.{Ended}
-use Rattle.raid_base.specs.Steps.{told, answer}
+use Rattle.raid_base.specs.Steps.{told, answer, stopped}
 use Rattle.attempts.specs.Taking.{Finish}
 use Rattle.script_text.specs.Script.{Script, jobs_of}
-use Rattle.host_engine.specs.Progress.{Progress, Work, Trying, Over, Ending, Sent, takes, sent_by, work_errand, start_task, at_start}
+use Rattle.host_engine.specs.Progress.{Progress, Work, Over, Ending, Sent, takes, sent_by, work_errand, start_task, at_start, next_job, with_ending, quit_end}
 use Rattle.host_engine.specs.Plain.{first_blocks, FitsNext}
 use Rattle.host_engine.specs.Bounds.{Keeps, host_requests, host_contents}
-use Rattle.host_engine.specs.Left.{left, Suits, SuitsWork}
+use Rattle.host_engine.specs.Left.{left, Suits, work_in, SuitsWork}
 use Rattle.host_engine.specs.declared.attempt.Attempt.{Attempt}
+use Rattle.host_engine.specs.declared.duty.Duty.{Duty}
+use Rattle.host_engine.specs.declared.duty.Duty.TheVariants as duties
 use Rattle.host_engine.specs.declared.host.Host.{Host}
 
 -- results by job, from this one on
@@ -32,20 +34,22 @@ results_of host endings = map (result_of host) (enumerate_from 0 endings)
 abbrev pub contents_of : List Ending → List Content
 contents_of endings = flat_map (λ (e : Ending). e.contents) endings
 
--- the attempt in hand
-abbrev pub work_of : Script → List Job → Option Attempt → Work
+-- what is in hand
+abbrev pub work_of : Script → List Job → Option Duty → Work
 work_of script jobs None = Over
-work_of script jobs (Some attempt) = Trying (left attempt (first_blocks script jobs))
+work_of script jobs (Some duty) = work_in duty (first_blocks script jobs)
 
--- all but the attempt in hand
+-- all but what is in hand
 pub record Counts (script : Script) (host : HostNo) (now : Host) (p : Progress) : Type 0 where
   pub number : now.no ≡ host
   pub plays : now.script.now ≡ script
   pub listed : now.jobs.now ≡ jobs_of script host
   pub place : length p.endings ≡ now.job
   pub jobs : p.jobs ≡ drop now.job (jobs_of script host)
+  pub asked : p.asked ≡ now.asked
   pub tries : p.tries ≡ now.tries
-  pub row : p.row ≡ 0
+  pub row : p.row ≡ now.row
+  pub gone : p.gone ≡ now.gone
   pub draws : now.numbers.host ≡ host
   pub seen : p.seen ≡ now.numbers.seen
   pub clock : p.clock ≡ now.clock
@@ -54,8 +58,8 @@ pub record Counts (script : Script) (host : HostNo) (now : Host) (p : Progress) 
 
 pub record Stands (script : Script) (host : HostNo) (now : Host) (p : Progress) : Type 0 where
   pub counts : Counts script host now p
-  pub work : p.work ≡ work_of script p.jobs now.attempt
-  pub suits : SuitsWork now.attempt (first_blocks script p.jobs)
+  pub work : p.work ≡ work_of script p.jobs now.duty
+  pub suits : SuitsWork now.duty (first_blocks script p.jobs)
 
 -- what stays when a job is begun or ended without a request
 pub record KeepsRoom (old new : Host) : Type 0 where
@@ -67,7 +71,7 @@ pub record KeepsRoom (old new : Host) : Type 0 where
 -- where it has ended the next one is in hand
 abbrev pub Skips : Bool → Host → Host → Type 0
 Skips true old new = new.job ≡ old.job
-Skips false old new = (new.job ≡ old.job + 1) × (new.tries ≡ 0) × (new.attempt ≡ old.attempt)
+Skips false old new = (new.job ≡ old.job + 1) × (new.tries ≡ 0) × (new.duty ≡ old.duty)
 
 -- the job in hand has this task
 abbrev pub FirstTask : List Job → Task → Type 0
@@ -89,7 +93,19 @@ abbrev pub sent_pair : Option Sent → Option (BayNo × Ask)
 sent_pair None = None
 sent_pair (Some sent) = Some (sent.bay, sent.ask)
 
--- a host that may take this answer: it has asked, the answer fits, and there is room
+-- a host that may be told this reply: it has asked, the reply fits, and there is room for what it may read
+pub record CanHear (now : Host) (reply : Reply) : Type 0 where
+  pub script : Script
+  pub host : HostNo
+  pub p : Progress
+  pub requests : ℕ
+  pub contents : ℕ
+  pub stands : Stands script host now p
+  pub keeps : Keeps script p requests contents
+  pub asked : FitsNext (work_errand p.work) reply
+  pub reads : contents ≤ vec_capacity now.contents
+
+-- one that may take this answer: there is also room for its call
 pub record CanTake (now : Host) (moment : ℕ) (answer : Answer) : Type 0 where
   pub script : Script
   pub host : HostNo
@@ -110,16 +126,29 @@ pub record Takes (old new : Host) (moment : ℕ) (answer : Answer) (sent : Sent)
   pub stands : (script : Script) (host : HostNo) (p : Progress) → Stands script host old p →
       Stands script host new (takes script host p (record { bay = sent.bay; ask = sent.ask; answer = answer }))
 
--- the request that a host has to make comes from its attempt in hand
+-- the request that a host has to make comes from what it has in hand
 abbrev pub IsSentBy : Host → ℕ → Sent → Type 0
-IsSentBy now moment sent = sent_by now.no now.clock moment (work_errand (work_of now.script.now (drop now.job now.jobs.now) now.attempt)) ≡ Some sent
+IsSentBy now moment sent = sent_by now.no now.clock moment (work_errand (work_of now.script.now (drop now.job now.jobs.now) now.duty)) ≡ Some sent
+
+-- it has an attempt in hand
+abbrev pub IsTrying : Host → Type 0
+IsTrying now = (attempt : Attempt) × (now.duty ≡ Some (duties.Trying attempt))
+
+-- one that has not ended
+abbrev pub IsAsking : Host → Type 0
+IsAsking now = (attempt : Attempt) × (now.duty ≡ Some (duties.Trying attempt)) × ((blocks : List (List ℕ)) → answer (left attempt blocks) ≡ None)
+
+-- it has stopped with that in hand
+abbrev pub Quits : Script → HostNo → Host → Host → Progress → Type 0
+Quits script host old new p = (attempt : Attempt) (blocks : List (List ℕ)) (stop : Ended) → old.duty ≡ Some (duties.Trying attempt) →
+    stopped (left attempt blocks) ≡ Some stop → Stands script host new (record (next_job (with_ending p (quit_end p.tries stop) [])) { work = Over })
 
 -- the attempt in hand was told a reply
 pub record Told (old new : Host) (reply : Reply) (ended : Option Ended) : Type 0 where
   pub was : Attempt
   pub now : Attempt
-  pub in_hand : old.attempt ≡ Some was
-  pub still_in_hand : new.attempt ≡ Some now
+  pub in_hand : old.duty ≡ Some (duties.Trying was)
+  pub still_in_hand : new.duty ≡ Some (duties.Trying now)
   pub steps : record { seen = new.numbers.seen; steps = left now (first_blocks old.script.now (drop old.job old.jobs.now)) }
       ≡ told old.numbers.host (record { seen = old.numbers.seen; steps = left was (first_blocks old.script.now (drop old.job old.jobs.now)) }) reply
   pub suits : Suits now (first_blocks old.script.now (drop old.job old.jobs.now))
@@ -129,21 +158,27 @@ pub record Told (old new : Host) (reply : Reply) (ended : Option Ended) : Type 0
   pub plays : new.script ≡ old.script
   pub listed : new.jobs ≡ old.jobs
   pub job : new.job ≡ old.job
+  pub asked : new.asked ≡ old.asked
   pub tries : new.tries ≡ old.tries
+  pub row : new.row ≡ old.row
+  pub gone : new.gone ≡ old.gone
   pub clock : new.clock ≡ old.clock
   pub results : new.results ≡ old.results
   pub contents : new.contents ≡ old.contents
   pub transcript : new.transcript ≡ old.transcript
 
--- the host before its attempt is told: only the clock and the transcript are new
+-- a call was counted: only the clock, the count and the transcript are new
 pub record IsNoted (old mid : Host) (clock : ℕ) : Type 0 where
   pub number : mid.no ≡ old.no
   pub plays : mid.script ≡ old.script
   pub listed : mid.jobs ≡ old.jobs
   pub job : mid.job ≡ old.job
+  pub asked : mid.asked ≡ old.asked + 1
   pub tries : mid.tries ≡ old.tries
+  pub row : mid.row ≡ old.row
+  pub gone : mid.gone ≡ old.gone
   pub numbers : mid.numbers ≡ old.numbers
-  pub attempt : mid.attempt ≡ old.attempt
+  pub duty : mid.duty ≡ old.duty
   pub results : mid.results ≡ old.results
   pub contents : mid.contents ≡ old.contents
   pub clock_is : mid.clock ≡ clock

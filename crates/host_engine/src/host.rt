@@ -1,20 +1,22 @@
 //! One host: its jobs in order, each by one attempt after another until it is done or given up.
-ghost use Rattle.std.specs.Prelude.{◌≡◌, ◌+◌, ◌<◌, ◌≤◌, ◌-◌, ◌^◌, ℕ, Some, IsSome, true, ◌==◌, ◌||◌, length};
-ghost use Rattle.host_engine.specs.Progress.{parts_end, is_spent};
-ghost use Rattle.host_engine.specs.Plain.{first_blocks, are_plain, are_sized, are_held};
+ghost use Rattle.std.specs.Prelude.{◌≡◌, ◌+◌, ◌<◌, ◌≤◌, ◌-◌, ◌^◌, Some, true, ◌==◌, ◌||◌, length};
+ghost use Rattle.host_engine.specs.Operator.{is_gone};
+ghost use Rattle.host_engine.specs.Progress.{parts_end, is_spent, quit_end};
+ghost use Rattle.host_engine.specs.Plain.{first_blocks, are_sized, are_held, are_aimed};
 ghost use Rattle.std.specs.Vec.{vec_len, vec_capacity};
 
 use crate::attempt::Attempt;
+use crate::duty::Duty;
 use crate::lookup;
+use crate::operator::Gone;
 use crate::room::{contents_in, requests_in, task_parts, with_room};
 use place_numbers::Numbers;
 use raid_base::{
     Answer, Ask, BayNo, Call, Cause, Content, Ended, HostNo, Job, JobEnd, JobResult, NoMemory,
-    Number, PartsFault, Reply, Task,
+    PartsFault, Reply, RowNo, Task,
 };
 use script_text::Script;
 use std::alloc::Global;
-use virtual_objects::RowParts;
 
 /// A host that runs its jobs.
 #[derive(Drop)]
@@ -23,10 +25,13 @@ pub struct Host<'s> {
     script: &'s Script,
     jobs: &'s [Job],
     job: u32,
+    asked: u64,
     tries: u8,
+    row: u16,
+    gone: Option<Gone>,
     numbers: Numbers,
     clock: u64,
-    attempt: Option<Attempt>,
+    duty: Option<Duty>,
     results: Vec<JobResult>,
     contents: Vec<Content>,
     transcript: Vec<Call>,
@@ -34,8 +39,9 @@ pub struct Host<'s> {
     ghost within: { job ≤ length jobs.now },
     ghost sized: { are_sized jobs.now ≡ true },
     ghost held: { are_held (length script.now.blocks) jobs.now ≡ true },
-    ghost plain: { are_plain jobs.now ≡ true },
+    ghost aimed: { are_aimed script.now.n jobs.now ≡ true },
     ghost room: { vec_len results + (length jobs.now - job) ≤ vec_capacity results },
+    ghost counted: { asked ≤ vec_len transcript },
 }
 
 /// How a job ends that has no parts.
@@ -46,6 +52,52 @@ fn parts_end(fault: PartsFault) -> JobEnd
         PartsFault::NoObject => JobEnd::NoObject,
         PartsFault::PastEnd { blocks } => JobEnd::PastEnd { blocks },
         PartsFault::TooManyRows { rows } => JobEnd::TooManyRows { rows },
+    }
+}
+
+/// How a job ends whose attempt was not at its end when the host stopped.
+fn quit_end(tries: u8, ended: Ended) -> JobEnd
+    ensures { result ≡ quit_end tries ended }
+{
+    match ended {
+        Ended::Read { number } => JobEnd::Read { number },
+        Ended::Wrote { number } => JobEnd::Wrote { number },
+        Ended::Part {
+            number,
+            made,
+            cause,
+        } => JobEnd::Part {
+            number,
+            made,
+            cause,
+        },
+        Ended::Recovered {
+            number,
+            closed,
+            lost,
+        } => JobEnd::Recovered {
+            number,
+            closed,
+            lost,
+        },
+        Ended::Mended => JobEnd::Gave {
+            tries,
+            cause: Cause::Quit,
+        },
+        Ended::Refused(_) => JobEnd::Gave {
+            tries,
+            cause: Cause::Quit,
+        },
+    }
+}
+
+/// Whether this bay's device is gone, and fitted or not as said.
+fn is_gone(bay: BayNo, fitted: bool, gone: Option<Gone>) -> bool
+    ensures { result ≡ is_gone bay fitted gone }
+{
+    match gone {
+        Some(gone) => gone.bay == bay && gone.fitted == fitted,
+        None => false,
     }
 }
 
@@ -77,16 +129,14 @@ fn first_blocks<'s>(script: &'s Script, jobs: &[Job]) -> &'s [[u8; 64]]
 }
 
 impl<'s> Host<'s> {
-    ghost use Rattle.std.specs.Prelude.{false, ◌↔◌, IsTrue, IfOk, [], Ok, None, IsOk, drop};
+    ghost use Rattle.std.specs.Prelude.{false, IfOk, [], ◌∷◌, ◌++◌, None, drop};
     ghost use Rattle.script_text.specs.Script.{Script, jobs_of};
     ghost use Rattle.raid_base.specs.declared.numbers.HostNo.{HostNo};
     ghost use Rattle.raid_base.specs.declared.jobs.JobEnd.{JobEnd};
-    ghost use Rattle.host_engine.specs.Plain.{is_plain_task, is_sized_task, is_held_task, task_parts, first_parts, FitsNext, AreTaskParts};
-    ghost use Rattle.host_engine.specs.Progress.{Progress, with_ending, next_job, try_task, start_task, start_jobs, attempt_refused, try_again, task_of, asks, job_ended, attempt_ended, work_errand, Sent};
-    ghost use Rattle.attempts.specs.Discipline.{IsPlainEnd};
-    ghost use Rattle.host_engine.specs.Parts.{parts_as_items};
-    ghost use Rattle.host_engine.specs.Left.{SuitsWork};
-    ghost use Rattle.host_engine.specs.Stands.{Counts, Stands, KeepsRoom, Skips, Begins, BeginsFirst, FirstTask, sent_pair, work_of, Told, CanTake, Takes, IsSentBy, IsFreshHost};
+    ghost use Rattle.raid_base.specs.declared.jobs.Task.TheVariants.{Rebuild};
+    ghost use Rattle.host_engine.specs.Plain.{IsTried, FirstTried, is_sized_task, is_held_task, is_plain_task, task_parts};
+    ghost use Rattle.host_engine.specs.Progress.{Progress, with_ending, next_job, try_task, try_parts, lose_job, fit_job, rebuild_job, start_jobs, attempt_refused, row_mended, try_again, stops, task_of, asks, job_ended, attempt_ended, work_told, Sent};
+    ghost use Rattle.host_engine.specs.Stands.{Counts, Stands, KeepsRoom, Skips, Begins, BeginsFirst, FirstTask, sent_pair, Told, IsTrying, IsAsking, Quits, IsNoted, CanHear, CanTake, Takes, IsSentBy, IsFreshHost};
 
     /// The job in hand has ended so, and the next one is in hand.
     fn finish_job(&mut self, end: JobEnd, read: &[Content])
@@ -106,15 +156,16 @@ impl<'s> Host<'s> {
             Err(_) => unreachable!(),
         }
         self.job += 1;
+        self.asked = 0;
         self.tries = 0;
+        self.row = 0;
     }
 
     /// Begins an attempt of the job in hand by drawing its id. Where none is left the job is given up.
-    fn try_task(&mut self, task: &Task, parts: RowParts) -> bool
+    fn try_task(&mut self, task: &Task) -> bool
         requires job { self.old.job < length self.old.jobs.now }
-        requires plain { is_plain_task task.now ≡ true }
-        requires parts { task_parts self.old.script.now task.now ≡ Ok parts.items }
-        requires sound { AreTaskParts self.old.script.now.n task.now parts.items }
+        requires tried { IsTried self.old.script.now task.now }
+        requires sized { is_sized_task task.now ≡ true }
         requires held { is_held_task (length self.old.script.now.blocks) task.now ≡ true }
         requires tries { self.old.tries < 255 }
         ensures begun { (script : Script) (host : HostNo) (p : Progress) → Counts script host self.old p → FirstTask p.jobs task.now → Begins script host (λ rest q. try_task script host task.now rest q) result p self.new }
@@ -124,7 +175,8 @@ impl<'s> Host<'s> {
         self.tries += 1;
         match self.numbers.draw() {
             Ok(id) => {
-                self.attempt = Some(Attempt::begin(self.script, id, task, parts));
+                let attempt = Attempt::begin(self.script, self.no, id, RowNo(self.row), task);
+                self.duty = Some(Duty::Trying(attempt));
                 true
             }
             Err(spent) => {
@@ -140,6 +192,78 @@ impl<'s> Host<'s> {
         }
     }
 
+    /// Begins a read or a write, where it has parts.
+    fn access(&mut self, task: &Task) -> bool
+        requires job { self.old.job < length self.old.jobs.now }
+        requires access { is_plain_task task.now ≡ true }
+        requires sized { is_sized_task task.now ≡ true }
+        requires held { is_held_task (length self.old.script.now.blocks) task.now ≡ true }
+        requires fresh { self.old.tries ≡ 0 }
+        ensures begun { (script : Script) (host : HostNo) (p : Progress) → Counts script host self.old p → FirstTask p.jobs task.now → Begins script host (λ rest q. try_parts script host task.now rest q (task_parts script task.now)) result p self.new }
+        ensures job { Skips result self.old self.new }
+        ensures room { KeepsRoom self.old self.new }
+    {
+        match task_parts(self.script, task) {
+            Ok(_) => self.try_task(task),
+            Err(fault) => {
+                self.finish_job(parts_end(fault), &[]);
+                false
+            }
+        }
+    }
+
+    /// Loses a device, unless one is gone.
+    fn lose(&mut self, bay: BayNo) -> bool
+        requires job { self.old.job < length self.old.jobs.now }
+        ensures begun { (script : Script) (host : HostNo) (p : Progress) → Counts script host self.old p → Begins script host (λ rest q. lose_job rest q bay q.gone) result p self.new }
+        ensures job { Skips result self.old self.new }
+        ensures room { KeepsRoom self.old self.new }
+    {
+        match self.gone {
+            None => {
+                self.duty = Some(Duty::Losing(bay));
+                true
+            }
+            Some(gone) => {
+                self.finish_job(JobEnd::StillMissing { bay: gone.bay }, &[]);
+                false
+            }
+        }
+    }
+
+    /// Fits a device where the one of this bay is gone.
+    fn fit(&mut self, bay: BayNo) -> bool
+        requires job { self.old.job < length self.old.jobs.now }
+        ensures begun { (script : Script) (host : HostNo) (p : Progress) → Counts script host self.old p → Begins script host (λ rest q. fit_job rest q bay (is_gone bay false q.gone)) result p self.new }
+        ensures job { Skips result self.old self.new }
+        ensures room { KeepsRoom self.old self.new }
+    {
+        if is_gone(bay, false, self.gone) {
+            self.duty = Some(Duty::Fitting(bay));
+            true
+        } else {
+            self.finish_job(JobEnd::NotLost { bay }, &[]);
+            false
+        }
+    }
+
+    /// Begins to mend the first row on a device that was fitted.
+    fn rebuild(&mut self, bay: BayNo) -> bool
+        requires job { self.old.job < length self.old.jobs.now }
+        requires bay { bay.0 < self.old.script.now.n }
+        requires fresh { self.old.tries ≡ 0 }
+        ensures begun { (script : Script) (host : HostNo) (p : Progress) → Counts script host self.old p → FirstTask p.jobs (Rebuild bay) → Begins script host (λ rest q. rebuild_job script host rest q bay (is_gone bay true q.gone)) result p self.new }
+        ensures job { Skips result self.old self.new }
+        ensures room { KeepsRoom self.old self.new }
+    {
+        if is_gone(bay, true, self.gone) {
+            self.try_task(&Task::Rebuild { bay })
+        } else {
+            self.finish_job(JobEnd::NotFitted { bay }, &[]);
+            false
+        }
+    }
+
     /// Begins the job in hand. Where it ends without a request the next one is in hand.
     fn begin_job(&mut self) -> bool
         requires job { self.old.job < length self.old.jobs.now }
@@ -150,19 +274,20 @@ impl<'s> Host<'s> {
     {
         let jobs = self.jobs;
         let task = &jobs[self.job as usize].task;
-        match task_parts(self.script, task) {
-            Ok(parts) => self.try_task(task, parts),
-            Err(fault) => {
-                self.finish_job(parts_end(fault), &[]);
-                false
-            }
+        match task {
+            Task::Read { .. } => self.access(task),
+            Task::Write { .. } => self.access(task),
+            Task::Recover { .. } => self.try_task(task),
+            Task::Lose { bay } => self.lose(*bay),
+            Task::Fit { bay } => self.fit(*bay),
+            Task::Rebuild { bay } => self.rebuild(*bay),
         }
     }
 
     /// Goes on to the first request of the jobs that are left.
     fn start(&mut self)
         requires fresh { self.old.tries ≡ 0 }
-        requires idle { self.old.attempt ≡ None }
+        requires idle { self.old.duty ≡ None }
         ensures stands { (script : Script) (host : HostNo) (p : Progress) → Counts script host self.old p → Stands script host self.new (start_jobs script host p.jobs p) }
         ensures room { KeepsRoom self.old self.new }
     {
@@ -177,11 +302,11 @@ impl<'s> Host<'s> {
     pub fn next(&self, moment: u64) -> Option<(BayNo, Ask)>
         ensures { (script : Script) (host : HostNo) (p : Progress) → Stands script host self.now p → result ≡ sent_pair (asks host p moment) }
     {
-        let attempt = match &self.attempt {
-            Some(attempt) => attempt,
+        let duty = match &self.duty {
+            Some(duty) => duty,
             None => return None,
         };
-        match attempt.next(first_blocks(self.script, &self.jobs[self.job as usize..])) {
+        match duty.next(first_blocks(self.script, &self.jobs[self.job as usize..])) {
             Some(errand) => Some((
                 errand.bay,
                 Ask {
@@ -195,26 +320,29 @@ impl<'s> Host<'s> {
         }
     }
 
-    /// The attempt in hand was refused: the job is tried again, or given up after its last try.
-    fn refused(&mut self, cause: Cause)
+    /// Whether the host stops for good: the last request that its job may make was answered.
+    fn stops(&self) -> bool
+        requires job { self.now.job < length self.now.jobs.now }
+        ensures { (script : Script) (host : HostNo) (p : Progress) → Counts script host self.now p → result ≡ stops p }
+    {
+        match self.jobs[self.job as usize].quit {
+            Some(requests) => requests as u64 == self.asked,
+            None => false,
+        }
+    }
+
+    /// The job in hand has ended so, and the host goes on, unless it stops.
+    fn close(&mut self, end: JobEnd, read: &[Content])
         requires job { self.old.job < length self.old.jobs.now }
-        requires tries { self.old.tries ≤ self.old.script.now.tries }
-        requires idle { self.old.attempt ≡ None }
-        requires parts { IsOk (first_parts self.old.script.now (drop self.old.job self.old.jobs.now)) }
-        ensures stands { (script : Script) (host : HostNo) (p : Progress) → Counts script host self.old p → Stands script host self.new (attempt_refused script host p cause ((p.tries == script.tries) || is_spent cause)) }
+        requires idle { self.old.duty ≡ None }
+        requires room { vec_len self.old.contents + length read.now ≤ vec_capacity self.old.contents }
+        ensures stands { (script : Script) (host : HostNo) (p : Progress) → Counts script host self.old p → Stands script host self.new (job_ended script host p end read.now) }
         ensures room { KeepsRoom self.old self.new }
     {
-        if gives_up(self.tries, lookup::tries(self.script), cause) {
-            self.finish_job(
-                JobEnd::Gave {
-                    tries: self.tries,
-                    cause,
-                },
-                &[],
-            );
+        let stops = self.stops();
+        self.finish_job(end, read);
+        if !stops {
             self.start();
-        } else {
-            self.try_again();
         }
     }
 
@@ -222,43 +350,69 @@ impl<'s> Host<'s> {
     fn try_again(&mut self)
         requires job { self.old.job < length self.old.jobs.now }
         requires tries { self.old.tries < 255 }
-        requires idle { self.old.attempt ≡ None }
-        requires parts { IsOk (first_parts self.old.script.now (drop self.old.job self.old.jobs.now)) }
+        requires idle { self.old.duty ≡ None }
+        requires tried { FirstTried self.old.script.now (drop self.old.job self.old.jobs.now) }
         ensures stands { (script : Script) (host : HostNo) (p : Progress) → Counts script host self.old p → Stands script host self.new (try_again script host p (task_of p.jobs)) }
         ensures room { KeepsRoom self.old self.new }
     {
         let jobs = self.jobs;
-        let task = &jobs[self.job as usize].task;
-        match task_parts(self.script, task) {
-            Ok(parts) => {
-                if !self.try_task(task, parts) {
-                    self.start();
-                }
-            }
-            Err(_) => unreachable!(),
+        if !self.try_task(&jobs[self.job as usize].task) {
+            self.start();
         }
     }
 
-    /// The job in hand has ended so, and the host goes on.
-    fn close(&mut self, end: JobEnd, read: &[Content])
+    /// The attempt in hand was refused: the job is tried again, or given up after its last try.
+    fn refused(&mut self, cause: Cause)
         requires job { self.old.job < length self.old.jobs.now }
-        requires idle { self.old.attempt ≡ None }
-        requires room { vec_len self.old.contents + length read.now ≤ vec_capacity self.old.contents }
-        ensures stands { (script : Script) (host : HostNo) (p : Progress) → Counts script host self.old p → Stands script host self.new (job_ended script host p end read.now) }
+        requires tries { self.old.tries ≤ self.old.script.now.tries }
+        requires idle { self.old.duty ≡ None }
+        requires tried { FirstTried self.old.script.now (drop self.old.job self.old.jobs.now) }
+        ensures stands { (script : Script) (host : HostNo) (p : Progress) → Counts script host self.old p → Stands script host self.new (attempt_refused script host p cause ((p.tries == script.tries) || is_spent cause)) }
         ensures room { KeepsRoom self.old self.new }
     {
-        self.finish_job(end, read);
-        self.start();
+        let tries = self.tries;
+        if gives_up(tries, lookup::tries(self.script), cause) {
+            self.close(JobEnd::Gave { tries, cause }, &[]);
+        } else if self.stops() {
+            let cause = Cause::Quit;
+            self.close(JobEnd::Gave { tries, cause }, &[]);
+        } else {
+            self.try_again();
+        }
+    }
+
+    /// A row was mended: the next one is, or the rebuild is done and nothing is gone any more.
+    fn mended(&mut self)
+        requires job { self.old.job < length self.old.jobs.now }
+        requires row { self.old.row < self.old.script.now.rows }
+        requires idle { self.old.duty ≡ None }
+        requires tried { FirstTried self.old.script.now (drop self.old.job self.old.jobs.now) }
+        ensures stands { (script : Script) (host : HostNo) (p : Progress) → Counts script host self.old p → Stands script host self.new (row_mended script host p (p.row + 1 == script.rows)) }
+        ensures room { KeepsRoom self.old self.new }
+    {
+        let rows = lookup::rows(self.script);
+        if self.row + 1 == rows {
+            self.gone = None;
+            self.close(JobEnd::Rebuilt, &[]);
+        } else if self.stops() {
+            let tries = self.tries;
+            let cause = Cause::Quit;
+            self.close(JobEnd::Gave { tries, cause }, &[]);
+        } else {
+            self.row += 1;
+            self.tries = 0; // each row has its own tries
+            self.try_again();
+        }
     }
 
     /// The attempt in hand has ended so.
     fn finish(&mut self, ended: Ended, read: &[Content])
         requires job { self.old.job < length self.old.jobs.now }
         requires tries { self.old.tries ≤ self.old.script.now.tries }
-        requires idle { self.old.attempt ≡ None }
+        requires row { self.old.row < self.old.script.now.rows }
+        requires idle { self.old.duty ≡ None }
         requires room { vec_len self.old.contents + length read.now ≤ vec_capacity self.old.contents }
-        requires parts { IsOk (first_parts self.old.script.now (drop self.old.job self.old.jobs.now)) }
-        requires plain { IsPlainEnd ended }
+        requires tried { FirstTried self.old.script.now (drop self.old.job self.old.jobs.now) }
         ensures stands { (script : Script) (host : HostNo) (p : Progress) → Counts script host self.old p → Stands script host self.new (attempt_ended script host p read.now ended) }
         ensures room { KeepsRoom self.old self.new }
     {
@@ -277,26 +431,104 @@ impl<'s> Host<'s> {
                 },
                 &[],
             ),
+            Ended::Recovered {
+                number,
+                closed,
+                lost,
+            } => self.close(
+                JobEnd::Recovered {
+                    number,
+                    closed,
+                    lost,
+                },
+                &[],
+            ),
+            Ended::Mended => self.mended(),
             Ended::Refused(cause) => self.refused(cause),
-            Ended::Recovered { .. } => unreachable!(),
-            Ended::Mended => unreachable!(),
         }
     }
 
     /// Hands the reply to the attempt in hand, and says how that has ended, if it has.
-    fn tell(&mut self, reply: &Reply) -> Option<Ended>
-        requires asked { FitsNext (work_errand (work_of self.old.script.now (drop self.old.job self.old.jobs.now) self.old.attempt)) reply.now }
-        requires suits { SuitsWork self.old.attempt (first_blocks self.old.script.now (drop self.old.job self.old.jobs.now)) }
+    fn hear(&mut self, reply: &Reply) -> Option<Ended>
+        requires ready { CanHear self.old reply.now }
+        requires trying { IsTrying self.old }
         ensures told { Told self.old self.new reply.now result }
     {
         let blocks = first_blocks(self.script, &self.jobs[self.job as usize..]);
-        match &mut self.attempt {
-            Some(attempt) => {
+        match &mut self.duty {
+            Some(Duty::Trying(attempt)) => {
                 attempt.take(blocks, reply, &mut self.numbers);
                 attempt.end()
             }
+            Some(Duty::Losing(_)) => unreachable!(),
+            Some(Duty::Fitting(_)) => unreachable!(),
             None => unreachable!(),
         }
+    }
+
+    /// The host stops while the attempt in hand goes on: the job ends as that does.
+    fn quit(&mut self)
+        requires job { self.old.job < length self.old.jobs.now }
+        requires trying { IsAsking self.old }
+        requires room { vec_len self.old.contents ≤ vec_capacity self.old.contents }
+        ensures stands { (script : Script) (host : HostNo) (p : Progress) → Counts script host self.old p → Quits script host self.old self.new p }
+        ensures room { KeepsRoom self.old self.new }
+    {
+        match self.duty.take() {
+            Some(Duty::Trying(attempt)) => {
+                let end = quit_end(self.tries, attempt.quit());
+                self.finish_job(end, &[]);
+            }
+            Some(Duty::Losing(_)) => unreachable!(),
+            Some(Duty::Fitting(_)) => unreachable!(),
+            None => unreachable!(),
+        }
+    }
+
+    /// Takes the reply to the next request of the attempt in hand.
+    fn tell(&mut self, reply: &Reply)
+        requires ready { CanHear self.old reply.now }
+        requires trying { IsTrying self.old }
+        ensures stands { (script : Script) (host : HostNo) (p : Progress) → Stands script host self.old p → Stands script host self.new (work_told script host p reply.now p.work) }
+        ensures room { KeepsRoom self.old self.new }
+    {
+        match self.hear(reply) {
+            Some(ended) => match self.duty.take() {
+                Some(Duty::Trying(attempt)) => self.finish(ended, attempt.contents()),
+                Some(Duty::Losing(_)) => unreachable!(),
+                Some(Duty::Fitting(_)) => unreachable!(),
+                None => unreachable!(),
+            },
+            None => {
+                if self.stops() {
+                    self.quit();
+                }
+            }
+        }
+    }
+
+    /// A device was lost, or another was fitted for it.
+    fn change(&mut self, gone: Gone, end: JobEnd)
+        requires job { self.old.job < length self.old.jobs.now }
+        requires room { vec_len self.old.contents ≤ vec_capacity self.old.contents }
+        ensures stands { (script : Script) (host : HostNo) (p : Progress) → Counts script host self.old p → Stands script host self.new (job_ended script host (record p { gone = Some gone }) end []) }
+        ensures room { KeepsRoom self.old self.new }
+    {
+        self.gone = Some(gone);
+        self.duty = None;
+        self.close(end, &[]);
+    }
+
+    /// Counts a call.
+    fn note(&mut self, call: Call)
+        requires room { vec_len self.old.transcript < vec_capacity self.old.transcript }
+        ensures noted { IsNoted self.old self.new call.answer.clock }
+        ensures call { self.new.transcript.items ≡ self.old.transcript.items ++ call ∷ [] }
+        ensures room { vec_capacity self.new.transcript ≡ vec_capacity self.old.transcript }
+    {
+        self.transcript.push_reserved(call);
+        self.clock = call.answer.clock;
+        self.asked += 1;
     }
 
     /// Takes the answer to the request that comes next at this moment.
@@ -308,17 +540,28 @@ impl<'s> Host<'s> {
             Some(sent) => sent,
             None => unreachable!(),
         };
-        self.transcript.push_reserved(Call {
+        self.note(Call {
             bay,
             ask,
             answer: *answer,
         });
-        self.clock = answer.clock;
-        if let Some(ended) = self.tell(&answer.reply) {
-            match self.attempt.take() {
-                Some(attempt) => self.finish(ended, attempt.contents()),
-                None => unreachable!(),
+        match &self.duty {
+            Some(Duty::Trying(_)) => self.tell(&answer.reply),
+            Some(Duty::Losing(bay)) => {
+                let gone = Gone {
+                    bay: *bay,
+                    fitted: false,
+                };
+                self.change(gone, JobEnd::Lost);
             }
+            Some(Duty::Fitting(bay)) => {
+                let gone = Gone {
+                    bay: *bay,
+                    fitted: true,
+                };
+                self.change(gone, JobEnd::Fitted);
+            }
+            None => unreachable!(),
         }
     }
 
@@ -326,7 +569,7 @@ impl<'s> Host<'s> {
     pub fn make(alloc: Global, no: HostNo, script: &'s Script) -> Result<Host<'s>, NoMemory>
         requires host { no.0 < 16 }
         requires few { length (jobs_of script.now no) < 2 ^ 32 }
-        requires plain { are_plain (jobs_of script.now no) ≡ true }
+        requires aimed { are_aimed script.now.n (jobs_of script.now no) ≡ true }
         requires sized { are_sized (jobs_of script.now no) ≡ true }
         requires held { are_held (length script.now.blocks) (jobs_of script.now no) ≡ true }
         ensures { IfOk result (IsFreshHost script.now no) }
@@ -337,10 +580,13 @@ impl<'s> Host<'s> {
             script,
             jobs,
             job: 0,
+            asked: 0,
             tries: 0,
+            row: 0,
+            gone: None,
             numbers: Numbers::new(no),
             clock: 0,
-            attempt: None,
+            duty: None,
             results: with_room(alloc, jobs.len())?,
             contents: with_room(alloc, contents_in(jobs))?,
             transcript: with_room(alloc, requests_in(script, jobs))?,

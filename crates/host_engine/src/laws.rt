@@ -1,9 +1,41 @@
 //! Laws of hosts, each the contract of a function without a body.
-ghost use Rattle.host_engine.specs.HostLaws.{RequestsAreBounded};
+ghost use Rattle.host_engine.specs.HostLaws.{RequestsAreBounded, CausesAreMet};
+ghost use Rattle.host_engine.specs.Endings.{EndingsAreFilled};
+ghost use Rattle.host_engine.specs.Quotas.{RequestsKeepQuotas, TotalsCoverRequests};
+ghost use Rattle.host_engine.specs.Smallness.{NumbersStaySmall};
 
-/// Along every history of a script of reads and writes that stop no host, each host has requests enough for what it has
-/// left to do: only hosts of the script ask, each at most as often as all allowed attempts of its jobs together, and no
-/// clock is above the number of calls.
+/// Along every history of a script each host has requests enough for what it has left to do: only hosts of the script
+/// ask, each at most as often as all allowed attempts of its jobs together, and no clock is above the number of calls.
 pub fn requests_are_bounded()
     ensures { RequestsAreBounded }
+{}
+
+/// And each host asks each single bay at most as often as its quota says, so no bay is asked more often than all quotas
+/// together.
+pub fn requests_keep_quotas()
+    ensures { RequestsKeepQuotas }
+{}
+
+/// A script's total is that of all quotas at all bays, and all allowed attempts of its hosts together ask no more than that.
+pub fn totals_cover_requests()
+    ensures { TotalsCoverRequests }
+{}
+
+/// After every list of calls the jobs of a host that have ended are its first ones, and a read that is done has a content
+/// for each of its blocks, while no other job has any.
+pub fn endings_are_filled()
+    ensures { EndingsAreFilled }
+{}
+
+/// Along every history of a script each result that gives a cause has it: the reply stands in the calls of the job's last
+/// attempt, and a job is given up after all its tries, unless its host stops or numbers are spent.
+pub fn causes_are_met()
+    ensures { CausesAreMet }
+{}
+
+/// Along every history of a script whose total is at most 2^20 numbers stay below 2^26, far from their end: what each host
+/// has seen, the ids and numbers of requests, and the numbers that replies show. No job is given up, or done in part, for
+/// want of numbers.
+pub fn numbers_stay_small()
+    ensures { NumbersStaySmall }
 {}

@@ -2,12 +2,16 @@
 #![tactic(auto)]
 
 pub mod attempt;
+pub mod duty;
 pub mod host;
 pub mod laws;
 pub mod lookup;
+pub mod operator;
 pub mod room;
 
 pub use host::Host;
 
+#[cfg(test)]
+mod host_tests;
 #[cfg(test)]
 mod tests;

@@ -16,6 +16,13 @@ pub fn tries(script: &Script) -> u8
     script.tries
 }
 
+/// The number of rows.
+pub fn rows(script: &Script) -> u16
+    ensures { result ≡ script.now.rows }
+{
+    script.rows
+}
+
 /// The jobs of one of these hosts, and none where it isn't there.
 fn jobs_in(hosts: &[HostJobs], host: HostNo) -> &[Job]
     ensures { result.now ≡ jobs_in_hosts hosts.now host }

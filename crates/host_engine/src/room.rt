@@ -1,7 +1,7 @@
 //! How much a host may ask and report, and the room for it.
 ghost use Rattle.std.specs.Prelude.{◌≡◌, ◌≤◌, ◌<◌, ◌*◌, ◌^◌, [], length, sum_by, true, IfOk};
 ghost use Rattle.std.specs.Vec.{vec_capacity};
-ghost use Rattle.host_engine.specs.Bounds.{job_requests, job_contents, task_contents, parts_requests};
+ghost use Rattle.host_engine.specs.Bounds.{job_requests, job_contents, task_contents, task_requests, parts_requests};
 ghost use Rattle.host_engine.specs.Parts.{parts_as_items};
 ghost use Rattle.host_engine.specs.Plain.{are_sized, is_sized_task, task_parts, AreTaskParts};
 
@@ -75,13 +75,45 @@ fn parts_requests(devices: u8, parts: &Result<RowParts, PartsFault>) -> usize
     }
 }
 
+/// At most so many requests are made for a rebuild: each row has its own tries.
+fn rebuild_requests(rows: u16, tries: u8, devices: u8) -> usize
+    requires { devices ≤ 16 }
+    ensures value { result ≡ rows * (tries * (4 * devices)) }
+    ensures few { result ≤ 1069531200 }
+{
+    rows as usize * (tries as usize * (4 * devices as usize))
+}
+
+/// At most so many requests are made in an attempt of a task.
+fn task_requests(script: &Script, task: &Task) -> usize
+    requires { is_sized_task task.now ≡ true }
+    ensures value { result ≡ task_requests script.now task.now }
+    ensures few { result ≤ 8160 }
+{
+    match task {
+        Task::Read { .. } => parts_requests(script.n, &task_parts(script, task)),
+        Task::Write { .. } => parts_requests(script.n, &task_parts(script, task)),
+        Task::Recover { .. } => 4 * script.n as usize,
+        Task::Lose { .. } => 1,
+        Task::Fit { .. } => 1,
+        Task::Rebuild { .. } => 4 * script.n as usize,
+    }
+}
+
 /// At most so many requests are made for a job.
 fn job_requests(script: &Script, job: &Job) -> usize
     requires { is_sized_task job.now.task ≡ true }
     ensures value { result ≡ job_requests script.now job.now }
-    ensures few { result ≤ 2080800 }
+    ensures few { result ≤ 1069531200 }
 {
-    script.tries as usize * parts_requests(script.n, &task_parts(script, &job.task))
+    match &job.task {
+        Task::Rebuild { .. } => {
+            rebuild_requests(script.rows, script.tries, lookup::devices(script))
+        }
+        Task::Lose { .. } => 1,
+        Task::Fit { .. } => 1,
+        task => script.tries as usize * task_requests(script, task),
+    }
 }
 
 /// At most so many requests are made for some jobs.

@@ -110,11 +110,10 @@ fn reads_the_first_block(rt: HostRuntime) -> Result<(), Fail> {
         first: 0,
         count: 1,
     };
-    let parts = match task_parts(&script, &task) {
-        Ok(parts) => parts,
+    let mut read = match task_parts(&script, &task) {
+        Ok(_) => Attempt::begin(&script, HostNo(1), Number(17), RowNo(0), &task),
         Err(_) => return Err("no parts")?,
     };
-    let mut read = Attempt::begin(&script, Number(17), &task, parts);
     let share = Request::Share {
         row: RowNo(0),
         id: Number(17),

@@ -1,7 +1,7 @@
 -- A host that has not ended has a request to make.
-use Rattle.std.proofs.Common.{◌≡◌, ℕ, ◌-◌, ◌≤◌, ◌==◌, List, [], ◌∷◌, length, drop, Bool, true, false, cond, Option, Some, None, Result, Ok, Err, refl, sym, ap, subst, arith}
-use Rattle.std.specs.Prelude.{IsOk, IsSome, find}
-use Rattle.std.specs.List.{AllByRecursion, All}
+use Rattle.std.proofs.Common.{◌≡◌, ℕ, ◌-◌, ◌<◌, ◌≤◌, ◌==◌, List, [], ◌∷◌, length, drop, Bool, true, false, Option, Some, None, Result, Ok, Err, refl, sym, ap, subst, arith}
+use Rattle.std.specs.Prelude.{IsOk, IsSome}
+use Rattle.std.specs.List.{AllByRecursion}
 use Rattle.std.proofs.lemmas.List.Elements.{recursion_from_All}
 use Rattle.raid_base.specs.declared.numbers.HostNo.{HostNo}
 use Rattle.raid_base.specs.declared.numbers.RowNo.{RowNo}
@@ -30,17 +30,19 @@ use Rattle.virtual_objects.specs.RowParts.{IsPart, ArePartsOf}
 use Rattle.virtual_objects.proofs.JobLemmas.{are_parts}
 use Rattle.attempts.specs.Taking.{Access, Finish, Rows, no_rows}
 use Rattle.attempts.specs.Reading.{read_rows}
-use Rattle.script_text.specs.Script.{Script, HostJobs, jobs_in, jobs_of, parts_of, blocks_of}
-use Rattle.script_text.specs.Ranges.{IsScript, IsJob, IsTask}
-use Rattle.host_engine.specs.Progress.{Progress, Sent, Work, Trying, Losing, Fitting, Over, access, attempt, read_of, write_of, takes, asks, sent_by, work_errand, work_told, call_counted, steps_left, asks_on, attempt_ended, attempt_refused, is_over, once_more, try_again, task_of, job_ended, go_on, with_ending, next_job, start_jobs, start_task, try_parts, try_task, try_with, one_more, row_mended, next_row}
+use Rattle.script_text.specs.Script.{Script, jobs_of, parts_of, blocks_of}
+use Rattle.script_text.specs.Ranges.{IsScript}
+use Rattle.host_engine.specs.Progress.{Progress, Sent, Work, Trying, Losing, Fitting, Over, access, attempt, read_of, write_of, takes, asks, sent_by, work_errand, work_told, call_counted, steps_left, asks_on, attempt_ended, attempt_refused, is_over, once_more, try_again, task_of, job_ended, go_on, with_ending, next_job, start_jobs, start_task, try_parts, try_task, try_with, one_more, row_mended, next_row, lose_job, fit_job, rebuild_job, at_start}
 use Rattle.host_engine.specs.History.{progress_at, if_taken, has_ended}
 use Rattle.raid_base.specs.declared.messages.Ask.{Ask}
 use Rattle.host_engine.specs.Stands.{sent_pair}
 use Rattle.schedule_play.specs.Plays.{unless_ended}
 use Rattle.host_engine.specs.Asked.{AreAsked}
-use Rattle.host_engine.specs.Plain.{is_plain_task, is_plain_job, are_plain, task_parts}
-use Rattle.host_engine.specs.Bounds.{HasBlocks, Keeps, KeepsWork, KeepsSteps, IsPlayable}
-use Rattle.host_engine.proofs.BoundsStart.{first-of-and, second-of-and}
+use Rattle.host_engine.specs.declared.operator.Gone.{Gone}
+use Rattle.host_engine.specs.Operator.{is_gone}
+use Rattle.host_engine.specs.Plain.{IsTried, FirstTried, task_parts}
+use Rattle.host_engine.specs.Bounds.{IsAimed, Keeps, KeepsWork, KeepsSteps, IsPlayable}
+use Rattle.host_engine.proofs.BoundsTakes.{before_start, script-aims}
 use Rattle.host_engine.proofs.BoundsHistory.{requests_are_bounded}
 
 -- a request comes next
@@ -88,96 +90,101 @@ module _ (script : Script) (is : IsScript script) (host : HostNo) where
       let are = parts-some object first count parts some (rows_of script.objects object) refl is_ok in write-awake id parts blocks are.0
   write-starts id object first count blocks some (Err fault) is_ok granted = absurd (cc granted)
 
-  attempt-starts : (id : Number) (row : ℕ) (task : Task) → is_plain_task task ≡ true → HasBlocks task → IsOk (task_parts script task) →
+  attempt-starts : (id : Number) (row : ℕ) (task : Task) → IsAimed script task → IsTried script task →
       IsSome (next_errand (settled host id (attempt script host id row task)).steps)
-  attempt-starts id row (tasks.Read object first count) plain some granted = read-starts id object first count some (parts_of script object first count) refl granted
-  attempt-starts id row (tasks.Write object first from count) plain some granted =
-      write-starts id object first count (blocks_of script from count) some (parts_of script object first count) refl granted
-  attempt-starts id row (tasks.Recover at) plain some granted = absurd (cc)
-  attempt-starts id row (tasks.Lose bay) plain some granted = absurd (cc)
-  attempt-starts id row (tasks.Fit bay) plain some granted = absurd (cc)
-  attempt-starts id row (tasks.Rebuild bay) plain some granted = absurd (cc)
+  attempt-starts id row (tasks.Read object first count) aim tried = read-starts id object first count aim (parts_of script object first count) refl tried
+  attempt-starts id row (tasks.Write object first from count) aim tried =
+      write-starts id object first count (blocks_of script from count) aim (parts_of script object first count) refl tried
+  attempt-starts id row (tasks.Recover at) aim tried = refl
+  attempt-starts id row (tasks.Lose bay) aim tried = absurd tried
+  attempt-starts id row (tasks.Fit bay) aim tried = absurd tried
+  attempt-starts id row (tasks.Rebuild bay) aim tried = refl
 
   -- what goes on is awake
   GoesOn : (Progress → Progress) → Type 0
   GoesOn rest = (q : Progress) → IsAwake (rest q).work
 
   module _ (rest : Progress → Progress) (on : (q : Progress) → IsAwake (rest q).work) where
-    with-awake : (task : Task) → is_plain_task task ≡ true → HasBlocks task → IsOk (task_parts script task) → (p : Progress) (d : Result Number Spent) →
-        IsAwake (try_with script host task rest p d).work
-    with-awake task plain some granted p (Ok id) = attempt-starts id p.row task plain some granted
-    with-awake task plain some granted p (Err spent) = on _
+    with-awake : (task : Task) → IsAimed script task → IsTried script task → (p : Progress) (d : Result Number Spent) → IsAwake (try_with script host task rest p d).work
+    with-awake task aim tried p (Ok id) = attempt-starts id p.row task aim tried
+    with-awake task aim tried p (Err spent) = on _
 
-    try-awake : (task : Task) → is_plain_task task ≡ true → HasBlocks task → IsOk (task_parts script task) → (p : Progress) → IsAwake (try_task script host task rest p).work
-    try-awake task plain some granted p = with-awake task plain some granted (one_more p) (draw host p.seen)
+    try-awake : (task : Task) → IsAimed script task → IsTried script task → (p : Progress) → IsAwake (try_task script host task rest p).work
+    try-awake task aim tried p = with-awake task aim tried (one_more p) (draw host p.seen)
 
-    parts-awake : (task : Task) → is_plain_task task ≡ true → HasBlocks task → (p : Progress) (r : Result (List RowPart) PartsFault) → task_parts script task ≡ r →
-        IsAwake (try_parts script host task rest p r).work
-    parts-awake task plain some p (Ok parts) e = try-awake task plain some (subst (λ (r : Result (List RowPart) PartsFault). IsOk r) (sym e) refl) p
-    parts-awake task plain some p (Err fault) e = on _
+    parts-awake : (task : Task) → IsAimed script task → (IsOk (task_parts script task) → IsTried script task) → (p : Progress) (r : Result (List RowPart) PartsFault) →
+        task_parts script task ≡ r → IsAwake (try_parts script host task rest p r).work
+    parts-awake task aim tried p (Ok parts) e = try-awake task aim (tried (subst (λ (r : Result (List RowPart) PartsFault). IsOk r) (sym e) refl)) p
+    parts-awake task aim tried p (Err fault) e = on _
 
-    task-awake : (task : Task) → is_plain_task task ≡ true → HasBlocks task → (p : Progress) → IsAwake (start_task script host rest p task).work
-    task-awake (tasks.Read object first count) plain some p = parts-awake (tasks.Read object first count) plain some p (parts_of script object first count) refl
-    task-awake (tasks.Write object first from count) plain some p = parts-awake (tasks.Write object first from count) plain some p (parts_of script object first count) refl
-    task-awake (tasks.Recover at) plain some p = absurd (cc)
-    task-awake (tasks.Lose bay) plain some p = absurd (cc)
-    task-awake (tasks.Fit bay) plain some p = absurd (cc)
-    task-awake (tasks.Rebuild bay) plain some p = absurd (cc)
+    lose-awake : (p : Progress) (bay : BayNo) (gone : Option Gone) → IsAwake (lose_job rest p bay gone).work
+    lose-awake p bay None = tt
+    lose-awake p bay (Some gone) = on _
 
-  plain-first : (job : Job) (jobs : List Job) → are_plain (job ∷ jobs) ≡ true → is_plain_task job.task ≡ true
-  plain-first job jobs all = first-of-and (is_plain_task job.task) _ (first-of-and (is_plain_job job) (are_plain jobs) all)
+    fit-awake : (p : Progress) (bay : BayNo) (lost : Bool) → IsAwake (fit_job rest p bay lost).work
+    fit-awake p bay true = tt
+    fit-awake p bay false = on _
 
-  jobs-awake : (jobs : List Job) → are_plain jobs ≡ true → AllByRecursion (λ (job : Job). HasBlocks job.task) jobs → (p : Progress) →
-      IsAwake (start_jobs script host jobs p).work
-  jobs-awake [] plain some p = tt
-  jobs-awake (job ∷ jobs) plain some p =
-      task-awake (start_jobs script host jobs) (jobs-awake jobs (second-of-and (is_plain_job job) (are_plain jobs) plain) some.1) job.task (plain-first job jobs plain) some.0 p
+    rebuild-awake : (p : Progress) (bay : BayNo) → bay.0 < script.n → (fitted : Bool) → IsAwake (rebuild_job script host rest p bay fitted).work
+    rebuild-awake p bay below true = try-awake (tasks.Rebuild bay) below below p
+    rebuild-awake p bay below false = on _
 
-  rest-awake : (jobs : List Job) → are_plain jobs ≡ true → AllByRecursion (λ (job : Job). HasBlocks job.task) jobs → (p : Progress) →
-      IsAwake (start_jobs script host (drop 1 jobs) p).work
-  rest-awake [] plain some p = tt
-  rest-awake (job ∷ jobs) plain some p = jobs-awake jobs (second-of-and (is_plain_job job) (are_plain jobs) plain) some.1 p
+    task-awake : (task : Task) → IsAimed script task → (p : Progress) → IsAwake (start_task script host rest p task).work
+    task-awake (tasks.Read object first count) aim p = parts-awake (tasks.Read object first count) aim (λ ok. ok) p (parts_of script object first count) refl
+    task-awake (tasks.Write object first from count) aim p = parts-awake (tasks.Write object first from count) aim (λ ok. ok) p (parts_of script object first count) refl
+    task-awake (tasks.Recover at) aim p = try-awake (tasks.Recover at) aim tt p
+    task-awake (tasks.Lose bay) aim p = lose-awake p bay p.gone
+    task-awake (tasks.Fit bay) aim p = fit-awake p bay (is_gone bay false p.gone)
+    task-awake (tasks.Rebuild bay) aim p = rebuild-awake p bay aim (is_gone bay true p.gone)
 
-  FirstGranted : List Job → Type 0
-  FirstGranted [] = Unit {0}
-  FirstGranted (job ∷ jobs) = IsOk (task_parts script job.task)
+  -- jobs with aims
+  AreAimed : List Job → Type 0
+  AreAimed jobs = AllByRecursion (λ (job : Job). IsAimed script job.task) jobs
 
-  -- a host with a job in hand
+  jobs-awake : (jobs : List Job) → AreAimed jobs → (p : Progress) → IsAwake (start_jobs script host jobs p).work
+  unfolding AreAimed
+  jobs-awake [] aims p = tt
+  jobs-awake (job ∷ jobs) aims p = task-awake (start_jobs script host jobs) (jobs-awake jobs aims.1) job.task aims.0 p
+
+  rest-awake : (jobs : List Job) → AreAimed jobs → (p : Progress) → IsAwake (start_jobs script host (drop 1 jobs) p).work
+  unfolding AreAimed
+  rest-awake [] aims p = tt
+  rest-awake (job ∷ jobs) aims p = jobs-awake jobs aims.1 p
+
+  -- a host with an attempt in hand
   record InHand (jobs : List Job) : Type 0 where
-    plain : are_plain jobs ≡ true
-    blocks : AllByRecursion (λ (job : Job). HasBlocks job.task) jobs
-    granted : FirstGranted jobs
+    aims : AreAimed jobs
+    tried : FirstTried script jobs
 
-  on-awake : (p : Progress) → InHand p.jobs → (b : Bool) → IsAwake (go_on script host p b).work
-  on-awake p h true = tt
-  on-awake p h false = rest-awake p.jobs h.plain h.blocks (next_job p)
+  on-awake : (p : Progress) → AreAimed p.jobs → (b : Bool) → IsAwake (go_on script host p b).work
+  on-awake p aims true = tt
+  on-awake p aims false = rest-awake p.jobs aims (next_job p)
 
-  ended-awake : (p : Progress) → InHand p.jobs → (e : JobEnd) (read : List Content) → IsAwake (job_ended script host p e read).work
-  ended-awake p h e read = on-awake (with_ending p e read) h _
+  ended-awake : (p : Progress) → AreAimed p.jobs → (e : JobEnd) (read : List Content) → IsAwake (job_ended script host p e read).work
+  ended-awake p aims e read = on-awake (with_ending p e read) aims _
 
-  again-awake : (p : Progress) (jobs : List Job) → InHand p.jobs → InHand jobs → IsAwake (try_again script host p (task_of jobs)).work
-  unfolding FirstGranted
-  again-awake p [] h k = tt
-  again-awake p (job ∷ jobs) h k =
-      try-awake (start_jobs script host (drop 1 p.jobs)) (rest-awake p.jobs h.plain h.blocks) job.task (plain-first job jobs k.plain) k.blocks.0 k.granted p
+  again-awake : (p : Progress) (jobs : List Job) → AreAimed p.jobs → InHand jobs → IsAwake (try_again script host p (task_of jobs)).work
+  unfolding AreAimed
+  again-awake p [] aims k = tt
+  again-awake p (job ∷ jobs) aims k = try-awake (start_jobs script host (drop 1 p.jobs)) (rest-awake p.jobs aims) job.task k.aims.0 k.tried p
 
   more-awake : (p later : Progress) → InHand p.jobs → InHand later.jobs → (b : Bool) → IsAwake (once_more script host p later b).work
-  more-awake p later h k true = ended-awake p h _ []
-  more-awake p later h k false = again-awake later p.jobs k h
+  more-awake p later h k true = ended-awake p h.aims _ []
+  more-awake p later h k false = again-awake later p.jobs k.aims h
 
   refused-awake : (p : Progress) → InHand p.jobs → (cause : Cause) (b : Bool) → IsAwake (attempt_refused script host p cause b).work
-  refused-awake p h cause true = ended-awake p h _ []
+  refused-awake p h cause true = ended-awake p h.aims _ []
   refused-awake p h cause false = more-awake p p h h _
 
   mended-awake : (p : Progress) → InHand p.jobs → (b : Bool) → IsAwake (row_mended script host p b).work
-  mended-awake p h true = ended-awake (record p { gone = None }) h _ []
+  mended-awake p h true = ended-awake (record p { gone = None }) h.aims _ []
   mended-awake p h false = more-awake p (next_row p) h h _
 
   attempt-awake : (p : Progress) → InHand p.jobs → (read : List Content) (e : Ended) → IsAwake (attempt_ended script host p read e).work
-  attempt-awake p h read (ends.Read n) = ended-awake p h _ read
-  attempt-awake p h read (ends.Wrote n) = ended-awake p h _ []
-  attempt-awake p h read (ends.Part n made cause) = ended-awake p h _ []
-  attempt-awake p h read (ends.Recovered n closed lost) = ended-awake p h _ []
+  attempt-awake p h read (ends.Read n) = ended-awake p h.aims _ read
+  attempt-awake p h read (ends.Wrote n) = ended-awake p h.aims _ []
+  attempt-awake p h read (ends.Part n made cause) = ended-awake p h.aims _ []
+  attempt-awake p h read (ends.Recovered n closed lost) = ended-awake p h.aims _ []
   attempt-awake p h read ends.Mended = mended-awake p h _
   attempt-awake p h read (ends.Refused cause) = refused-awake p h cause _
 
@@ -190,49 +197,27 @@ module _ (script : Script) (is : IsScript script) (host : HostNo) where
   left-awake p h (Draws k) = tt
   left-awake p h (Ends finish) = attempt-awake p h finish.contents finish.ended
 
-  in-hand : (jobs : List Job) (tries requests : ℕ) (steps : Steps Finish) → are_plain jobs ≡ true → AllByRecursion (λ (job : Job). HasBlocks job.task) jobs →
-      KeepsSteps script jobs tries requests steps → InHand jobs
-  unfolding FirstGranted
-  in-hand [] tries requests steps plain blocks k = absurd k
-  in-hand (job ∷ jobs) tries requests steps plain blocks k = record { plain = plain; blocks = blocks; granted = k.1 }
+  in-hand : (jobs : List Job) (row tries requests : ℕ) (steps : Steps Finish) → AreAimed jobs → KeepsSteps script jobs row tries requests steps → InHand jobs
+  in-hand [] row tries requests steps aims k = absurd k
+  in-hand (job ∷ jobs) row tries requests steps aims k = record { aims = aims; tried = k.1 }
 
   told-awake : (p : Progress) (call : Call) (requests contents : ℕ) → Keeps script p requests contents → (work : Work) → p.work ≡ work →
-      KeepsWork script p.jobs p.tries requests work → IsAwake (work_told script host (call_counted p call) call.answer.reply work).work
-  told-awake p call requests contents keeps (Trying steps) e k = left-awake _ (in-hand p.jobs p.tries requests steps keeps.plain keeps.blocks k) _
-  told-awake p call requests contents keeps (Losing bay) e k = absurd k
-  told-awake p call requests contents keeps (Fitting bay) e k = absurd k
+      KeepsWork script p.jobs p.row p.tries requests work → IsAwake (work_told script host (call_counted p call) call.answer.reply work).work
+  unfolding AreAimed
+  told-awake p call requests contents keeps (Trying steps) e k = left-awake _ (in-hand p.jobs p.row p.tries requests steps keeps.aims k) _
+  told-awake p call requests contents keeps (Losing bay) e k = ended-awake _ keeps.aims _ []
+  told-awake p call requests contents keeps (Fitting bay) e k = ended-awake _ keeps.aims _ []
   told-awake p call requests contents keeps Over e k = subst IsAwake (sym e) tt
 
   takes-awake : (p : Progress) (call : Call) (requests contents : ℕ) → Keeps script p requests contents → IsAwake (takes script host p call).work
   takes-awake p call requests contents keeps = told-awake p call requests contents keeps p.work refl keeps.work
 
--- a task of a script has some blocks
-task-blocks : (script : Script) (host : HostNo) (task : Task) → IsTask script host task → HasBlocks task
-task-blocks script host (tasks.Read object first count) t = t.some
-task-blocks script host (tasks.Write object first from count) t = t.some
-task-blocks script host (tasks.Recover row) t = tt
-task-blocks script host (tasks.Lose bay) t = tt
-task-blocks script host (tasks.Fit bay) t = tt
-task-blocks script host (tasks.Rebuild bay) t = tt
-
-all-blocks : (script : Script) (host : HostNo) (jobs : List Job) → AllByRecursion (IsJob script host) jobs → AllByRecursion (λ (job : Job). HasBlocks job.task) jobs
-all-blocks script host [] h = tt
-all-blocks script host (job ∷ jobs) h = (task-blocks script host job.task h.0.task, all-blocks script host jobs h.1)
-
-jobs-blocks : (script : Script) (host : HostNo) (hosts : List HostJobs) → AllByRecursion (λ (h : HostJobs). All (IsJob script h.host) h.jobs) hosts →
-    AllByRecursion (λ (job : Job). HasBlocks job.task) (jobs_in (find (λ (h : HostJobs). h.host.0 == host.0) hosts))
-jobs-blocks script host [] h = tt
-jobs-blocks script host (first ∷ hosts) h = by (first.host.0 == host.0) (jobs-blocks script host hosts h.1)
-  where
-    by : (b : Bool) → AllByRecursion (λ (job : Job). HasBlocks job.task) (jobs_in (find (λ (x : HostJobs). x.host.0 == host.0) hosts)) →
-        AllByRecursion (λ (job : Job). HasBlocks job.task) (jobs_in (cond b (Some first) (find (λ (x : HostJobs). x.host.0 == host.0) hosts)))
-    by true rest = all-blocks script first.host first.jobs (recursion_from_All (IsJob script first.host) first.jobs h.0)
-    by false rest = rest
+  start-awake : IsAwake (at_start script host).work
+  unfolding AreAimed
+  start-awake = jobs-awake (jobs_of script host) (script-aims script host is) (before_start script host)
 
 history-awake : (script : Script) (host : HostNo) (history : List Call) → IsPlayable script → AreAsked script history → IsAwake (progress_at script host history).work
-history-awake script host [] is h =
-    jobs-awake script is.ranges host (jobs_of script host) (is.plain host)
-    (jobs-blocks script host script.hosts (recursion_from_All (λ (h : HostJobs). All (IsJob script h.host) h.jobs) script.hosts is.ranges.jobs)) _
+history-awake script host [] is h = start-awake script is.ranges host
 history-awake script host (call ∷ earlier) is h = by (call.ask.host.0 == host.0) (history-awake script host earlier is h.0)
   where
     by : (b : Bool) → IsAwake (progress_at script host earlier).work → IsAwake (if_taken script host (progress_at script host earlier) call b).work

@@ -1,5 +1,5 @@
 -- What a closed world hands out: the journals and the stores of its history.
-use Rattle.std.proofs.Common.{◌≡◌, ℕ, ◌+◌, ◌-◌, ◌<◌, ◌≤◌, ◌^◌, ◌||◌, zero, suc, Bool, true, false, List, [], ◌∷◌, ◌++◌, length, get_or, map, drop, Option, Some, None, refl, sym, ap, subst, ◌∙◌, arith, IsTrue, length-append}
+use Rattle.std.proofs.Common.{◌≡◌, ℕ, ◌+◌, ◌<◌, ◌≤◌, ◌||◌, zero, suc, Bool, true, false, List, [], ◌∷◌, ◌++◌, length, get_or, map, drop, Option, Some, None, refl, sym, ap, subst, ◌∙◌, arith, IsTrue, length-append}
 use Rattle.std.specs.Prelude.{slice_get}
 use Rattle.std.specs.List.{list_any, range_with_len}
 use Rattle.std.proofs.lemmas.List.{length-drop}
@@ -12,12 +12,12 @@ use Rattle.raid_base.specs.Counts.{Rises, RisesBy}
 use Rattle.stripe_layout.specs.Placement.{bay}
 use Rattle.slot_rules.specs.declared.slot.SlotState.{SlotState}
 use Rattle.slot_rules.specs.Slots.{Slot, Bay as BayState, slot_of}
-use Rattle.slot_rules.specs.Tables.{slots_with, with_blocks, cell_of}
+use Rattle.slot_rules.specs.Tables.{slots_with, cell_of}
 use Rattle.block_store.specs.declared.store.Store.{Ghosts}
 use Rattle.bay_device.specs.declared.bay.Bay.{Bay}
-use Rattle.bay_device.specs.Handling.{count_faults, RisesByFaults}
+use Rattle.bay_device.specs.Handling.{count_faults}
 use Rattle.script_text.specs.Script.{Script}
-use Rattle.host_engine.specs.History.{journal, bay_at}
+use Rattle.host_engine.specs.History.{journal}
 use Rattle.schedule_play.specs.Faults.{is_fault_entry, fault_bay}
 use Rattle.schedule_play.specs.Making.{IsBack, AreBack, stores_of}
 use Rattle.schedule_play.specs.RowStates.{cell_at}
@@ -69,11 +69,11 @@ module _ {D : Type 0} {g : Ghosts D} where
   length-stores (b ∷ bays) = ap suc (length-stores bays)
 
   -- some bay of a list
-  some-bay : (bays : List (Bay D g)) → 1 ≤ length bays → Bay D g
+  pub some-bay : (bays : List (Bay D g)) → 1 ≤ length bays → Bay D g
   some-bay [] some = absurd (omega arith)
   some-bay (b ∷ bays) some = b
 
-  store-at : (bays : List (Bay D g)) (others : List D) (k : ℕ) (d : D) (e : Bay D g) → k < length bays → get_or (stores_of bays ++ others) k d ≡ (get_or bays k e).store
+  pub store-at : (bays : List (Bay D g)) (others : List D) (k : ℕ) (d : D) (e : Bay D g) → k < length bays → get_or (stores_of bays ++ others) k d ≡ (get_or bays k e).store
   store-at [] others k d e inside = absurd (omega arith)
   store-at (b ∷ bays) others zero d e inside = refl
   store-at (b ∷ bays) others (suc k) d e inside = store-at bays others k d e (omega (arith, inside))

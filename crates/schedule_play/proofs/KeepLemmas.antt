@@ -1,6 +1,6 @@
 -- Turns keep over which stores the bays are.
 use Rattle.std.proofs.Common.{◌≡◌, ℕ, ◌<◌, List, length, get_or, refl, sym, subst, ◌∙◌}
-use Rattle.std.proofs.Math.ListN.{set, length-set}
+use Rattle.std.proofs.Math.ListN.{set}
 use Rattle.raid_base.specs.declared.messages.Entry.{Entry}
 use Rattle.script_text.specs.Script.{Script}
 use Rattle.schedule_play.specs.Making.{IsMade}

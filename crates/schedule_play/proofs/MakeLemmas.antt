@@ -21,7 +21,8 @@ use Rattle.bay_device.specs.declared.bay.Bay.{Bay}
 use Rattle.host_engine.specs.declared.host.Host.{Host}
 use Rattle.host_engine.specs.Stands.{IsFreshHost}
 use Rattle.host_engine.specs.Bounds.{host_requests, job_requests}
-use Rattle.host_engine.specs.Plain.{are_sized, is_sized_task, is_sized, are_held, is_held_task}
+use Rattle.host_engine.specs.Quotas.{all_quotas}
+use Rattle.host_engine.specs.Plain.{are_sized, is_sized_task, is_sized, are_held, is_held_task, are_aimed, is_aimed_task}
 
 -- the host at each place is above those before it, and below 16
 pub record IsAbove (from : ℕ) (host : HostNo) : Type 0 where
@@ -69,6 +70,19 @@ and-true false b e f = cc
 sized-jobs : (script : Script) (host : HostNo) (jobs : List Job) → AllByRecursion (IsJob script host) jobs → are_sized jobs ≡ true
 sized-jobs script host [] all = refl
 sized-jobs script host (job ∷ jobs) all = and-true _ _ (sized-task script host job.task (all.0).task) (sized-jobs script host jobs all.1)
+
+-- nor of a bay that there is not
+aimed-task : (script : Script) (host : HostNo) (task : Task) → IsTask script host task → is_aimed_task script.n task ≡ true
+aimed-task script host (tasks.Read object first count) is = refl
+aimed-task script host (tasks.Write object first from count) is = refl
+aimed-task script host (tasks.Recover row) is = refl
+aimed-task script host (tasks.Lose bay) is = refl
+aimed-task script host (tasks.Fit bay) is = refl
+aimed-task script host (tasks.Rebuild bay) is = let below = is.1 in grind (arith, nat_tests, below)
+
+aimed-jobs : (script : Script) (host : HostNo) (jobs : List Job) → AllByRecursion (IsJob script host) jobs → are_aimed script.n jobs ≡ true
+aimed-jobs script host [] all = refl
+aimed-jobs script host (job ∷ jobs) all = and-true _ _ (aimed-task script host job.task (all.0).task) (aimed-jobs script host jobs all.1)
 
 -- a write's blocks end where those of its list do, at the latest
 held-task : (at most : ℕ) (task : Task) → WritesFrom at task → at + blocks_written task ≤ most → is_held_task most task ≡ true
@@ -118,7 +132,20 @@ sized-found script test [] all = refl
 sized-found script test (x ∷ hosts) all =
     either-sized (test x) x (find test hosts) (sized-jobs script x.host x.jobs (recursion_from_All (IsJob script x.host) x.jobs all.0)) (sized-found script test hosts all.1)
 
+either-aimed : (n : ℕ) (b : Bool) (x : HostJobs) (rest : Option HostJobs) → are_aimed n x.jobs ≡ true → are_aimed n (jobs_in rest) ≡ true → are_aimed n (jobs_in (cond b (Some x) rest)) ≡ true
+either-aimed n true x rest e f = e
+either-aimed n false x rest e f = f
+
+aimed-found : (script : Script) (test : HostJobs → Bool) (hosts : List HostJobs) → AllByRecursion (λ (h : HostJobs). All (IsJob script h.host) h.jobs) hosts →
+    are_aimed script.n (jobs_in (find test hosts)) ≡ true
+aimed-found script test [] all = refl
+aimed-found script test (x ∷ hosts) all =
+    either-aimed script.n (test x) x (find test hosts) (aimed-jobs script x.host x.jobs (recursion_from_All (IsJob script x.host) x.jobs all.0)) (aimed-found script test hosts all.1)
+
 module _ (script : Script) (is : IsScript script) where
+  pub jobs-aimed : (host : HostNo) → are_aimed script.n (jobs_of script host) ≡ true
+  jobs-aimed host = aimed-found script (λ (h : HostJobs). eqb h.host.0 host.0) script.hosts (recursion_from_All (λ (h : HostJobs). All (IsJob script h.host) h.jobs) script.hosts is.jobs)
+
   pub jobs-sized : (host : HostNo) → are_sized (jobs_of script host) ≡ true
   jobs-sized host = sized-found script (λ (h : HostJobs). eqb h.host.0 host.0) script.hosts (recursion_from_All (λ (h : HostJobs). All (IsJob script h.host) h.jobs) script.hosts is.jobs)
 
@@ -267,7 +294,7 @@ module _ {D : Type 0} {g : Ghosts D} where
       }
 
   -- a bay at its start
-  pub bay-at-start : (script : Script) (at : ℕ) (store : D) (now : Bay D g) → IsMade script (all_requests script) store now → BayShows script [] at now
+  pub bay-at-start : (script : Script) (at : ℕ) (store : D) (now : Bay D g) → IsMade script (all_quotas script) store now → BayShows script [] at now
   bay-at-start script at store now m = record {
     told = λ t. m.told (subst (λ (b : Bool). IsTrue b) m.tells t);
     clock = m.clock;

@@ -1,7 +1,6 @@
 -- What is written of what was gathered is the report of the history.
-use Rattle.std.proofs.Common.{◌≡◌, ℕ, ◌<◌, not, Bool, List, map, Option, Some, None, refl, ap, ◌∙◌}
+use Rattle.std.proofs.Common.{◌≡◌, ℕ, not, Bool, List, map, Option, Some, None, refl, ap, ◌∙◌}
 use Rattle.std.specs.Prelude.{flat_map}
-use Rattle.std.specs.List.{range_with_len}
 use Rattle.raid_base.specs.declared.numbers.RowNo.{RowNo}
 use Rattle.raid_base.specs.declared.cells.Content.{Content}
 use Rattle.raid_base.specs.declared.cells.Shown.{Shown}

@@ -20,8 +20,9 @@ use Rattle.attempts.specs.Discipline.{IsAskable}
 use Rattle.script_text.specs.Script.{Script}
 use Rattle.host_engine.specs.declared.host.Host.{Host}
 use Rattle.host_engine.specs.Progress.{Progress, Sent, asks, sent_by, work_errand}
-use Rattle.host_engine.specs.History.{progress_at, clock_at, journal, transcript, turns_of, turn_of}
+use Rattle.host_engine.specs.History.{progress_at, clock_at, journal, entry_of, transcript, turns_of, turn_of}
 use Rattle.host_engine.specs.Asked.{AreAsked}
+use Rattle.host_engine.specs.Quotas.{all_quotas}
 use Rattle.host_engine.specs.Bounds.{IsPlayable, host_requests, host_contents}
 use Rattle.host_engine.specs.HostLaws.{IsBounded}
 use Rattle.host_engine.specs.Plain.{FitsNext}
@@ -33,6 +34,7 @@ use Rattle.bay_device.specs.declared.bay.Bay.{Bay}
 use Rattle.stripe_layout.specs.Placement.{bay}
 use Rattle.host_engine.proofs.BoundsTakes.{asks-within, sent-errand}
 use Rattle.host_engine.proofs.BoundsHistory.{requests_are_bounded}
+use Rattle.host_engine.proofs.Quotas.{requests_keep_quotas}
 
 -- what is handed out is what is asked
 pub pair-sent : (o : Option Sent) (bay : BayNo) (ask : Ask) → Some (bay, ask) ≡ sent_pair o → o ≡ Some (record { bay = bay; ask = ask })
@@ -79,6 +81,11 @@ asked-again script history host moment sent h m e =
 transcript-here : (history : List Call) (call : Call) (host : HostNo) → eqb call.ask.host.0 host.0 ≡ true → length (transcript host (call ∷ history)) ≡ length (transcript host history) + 1
 transcript-here history call host e = rw e (length-append (transcript host history) (call ∷ []))
 
+journal-here : (history : List Call) (call : Call) → length (journal call.bay (call ∷ history)) ≡ length (journal call.bay history) + 1
+journal-here history call =
+    let e : eqb call.bay.0 call.bay.0 ≡ true = eq-eqb call.bay.0 call.bay.0 refl in
+    rw e (length-append (journal call.bay history) (entry_of call ∷ []))
+
 -- a host that asks in a world at this history
 pub record AsksNow (script : Script) (history : List Call) (host : Host) (moment : ℕ) (sent : Sent) : Type 0 where
   pub bay : sent.bay.0 < script.n
@@ -87,7 +94,7 @@ pub record AsksNow (script : Script) (history : List Call) (host : Host) (moment
   pub at : sent.ask.moment ≡ moment
   pub more : length history < all_requests script
   pub calls : length (transcript host.no history) + 1 ≤ host_requests script host.no
-  pub entries : (at : BayNo) → length (journal at history) < all_requests script
+  pub entries : length (journal sent.bay history) < all_quotas script
 
 pub asks-now : (script : Script) (history : List Call) (host : Host) (moment : ℕ) (sent : Sent) → IsPlayable script → all_requests script < 2 ^ 62 → AreAsked script history →
     HostShows script history host → asks host.no (progress_at script host.no history) moment ≡ Some sent → AsksNow script history host moment sent
@@ -98,7 +105,8 @@ asks-now script history host moment sent playable few asked shows asks_it =
     let within = asks-within script host.no p (host_requests script host.no - length (transcript host.no history)) (host_contents script host.no) moment sent (now.keeps host.no) asks_it in
     let call : Call = record { bay = sent.bay; ask = sent.ask; answer = record { clock = next_clock (clock_at sent.bay history) sent.ask; reply = Done } } in
     let whose = sent-by host.no p.clock moment (work_errand p.work) sent asks_it in
-    let later : IsBounded script (call ∷ history) = requests_are_bounded script (call ∷ history) playable (asked, record { asked = asked-again script history host.no moment sent whose.0 whose.1 asks_it; clocked = refl }) in
+    let asked_too : AreAsked script (call ∷ history) = (asked, record { asked = asked-again script history host.no moment sent whose.0 whose.1 asks_it; clocked = refl }) in
+    let later : IsBounded script (call ∷ history) = requests_are_bounded script (call ∷ history) playable asked_too in
     let more : length history < all_requests script = let h = later.calls in omega arith in
     let below : host.no.0 < 16 = subst (λ (h : HostNo). h.0 < 16) shows.stands.counts.draws host.numbers.is_host in
     let clock : sent.ask.clock < 2 ^ 62 = omega (arith, said.3, now.host_clocks host.no, more, few) in
@@ -108,7 +116,9 @@ asks-now script history host moment sent playable few asked shows asks_it =
       asker = whose.0;
       at = whose.1;
       more = more;
-      entries = λ at. omega (arith, now.journals at, more);
+      entries =
+          let h = (requests_keep_quotas script (call ∷ history) playable asked_too).journals sent.bay in
+          omega (arith, h, journal-here history call);
       calls = let h = later.transcripts host.no in let e : eqb sent.ask.host.0 host.no.0 ≡ true = eq-eqb _ _ (ap (λ (n : HostNo). n.0) whose.0) in
           subst (λ (n : ℕ). n ≤ host_requests script host.no) (transcript-here history call host.no e) h;
     }
@@ -173,5 +183,5 @@ module _ {D : Type 0} {g : Ghosts D} where
       BayShows script history sent.bay.0 device → IsAskOfBay (length device.slots.slots) sent.ask × (vec_len device.journal < device.cap)
   ask-fits-bay script history host moment sent device a b = (
     subst (λ (n : ℕ). IsAskOfBay n sent.ask) (sym b.rows) a.ask,
-    omega (arith, device.journal.ok.0, ap length b.entries, a.entries (bay sent.bay.0), b.room),
+    omega (arith, device.journal.ok.0, ap length b.entries, a.entries, b.room),
   )

@@ -14,6 +14,7 @@ use Rattle.host_engine.specs.declared.host.Host.{Host}
 use Rattle.host_engine.specs.Progress.{Sent, asks}
 use Rattle.host_engine.specs.History.{IsHistory, progress_at, bay_at, clock_at, journal, transcript, turns_of}
 use Rattle.host_engine.specs.Bounds.{IsPlayable, host_requests, host_contents}
+use Rattle.host_engine.specs.Quotas.{all_quotas}
 use Rattle.host_engine.specs.Asked.{AreAsked}
 use Rattle.host_engine.specs.Stands.{Stands}
 use Rattle.schedule_play.specs.declared.world.World.{World}
@@ -39,7 +40,7 @@ pub record BayShows {D : Type 0} {g : Ghosts D} (script : Script) (history : Lis
   pub clock : now.clock ≡ clock_at (bay at) history
   pub entries : now.journal.items ≡ journal (bay at) history
   pub rows : length now.slots.slots ≡ script.rows
-  pub room : all_requests script ≤ now.cap
+  pub room : all_quotas script ≤ now.cap
 
 -- every store tells its content
 abbrev pub AllTell : {D : Type 0} {g : Ghosts D} → List (Bay D g) → Type 0

@@ -25,6 +25,7 @@ impl<'s, D: Store> World<'s, D> {
     ghost use Rattle.schedule_play.specs.Making.{stores_of};
     ghost use Rattle.schedule_play.specs.Rows.{HasFailed};
     ghost use Rattle.schedule_play.specs.Gathering.{IsBlank, IsClosable, IsGathered};
+    ghost use Rattle.schedule_play.specs.Headline.{results};
 
     /// Gathers the results, the contents, the cells and the open rows. A store that fails ends the reading, and its bay
     /// is named.
@@ -32,6 +33,7 @@ impl<'s, D: Store> World<'s, D> {
         requires ready { IsReady self.old }
         requires blank { IsBlank self.old.script.now self.old.gathered }
         ensures gathered { AllTell self.old.bays.items → (script : Script) (history : List Call) → Shows script history self.old → IfOk result (λ _. IsGathered script history self.new.gathered) }
+        ensures results { (script : Script) (history : List Call) → Shows script history self.old → self.new.gathered.results.items ≡ results script history }
         ensures shows { (script : Script) (history : List Call) → Shows script history self.old → Shows script history self.new }
         ensures tells { AllTell self.old.bays.items → AllTell self.new.bays.items }
         ensures over { (stores : List D) → AreOver stores self.old.bays.items → AreOver stores self.new.bays.items }

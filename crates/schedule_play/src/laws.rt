@@ -1,5 +1,6 @@
 //! Laws of plays, each the contract of a function without a body.
 ghost use Rattle.schedule_play.specs.FirstForm.{FirstPlaysAreSerial, FirstPlaysKeepParity, FirstFormsAreFirst};
+ghost use Rattle.schedule_play.specs.Laws.{OneIsMissing};
 
 /// One host writes a block of a row of two units under stamps, and then reads it. Each such play in which no store fails
 /// and which comes to its end is serial: its results and contents are those of a serial array, and so is each block that
@@ -17,4 +18,9 @@ pub fn first_plays_keep_parity()
 /// What `script_text::read_first` takes for a script is such a script.
 pub fn first_forms_are_first()
     ensures { FirstFormsAreFirst }
+{}
+
+/// One bay is missing at most: after every history of a script two bays that have a slot without a cell are the same.
+pub fn one_bay_is_missing()
+    ensures { OneIsMissing }
 {}

@@ -3,7 +3,10 @@ ghost use Rattle.std.specs.Prelude.{◌≡◌, ◌<◌, ◌≤◌, ◌+◌, ◌^
 ghost use Rattle.std.specs.Vec.{vec_len, vec_capacity};
 ghost use Rattle.raid_base.specs.declared.numbers.HostNo.{HostNo};
 ghost use Rattle.script_text.specs.Script.{host_numbers, jobs_of};
+ghost use Rattle.script_text.specs.Ranges.{all_jobs};
+ghost use Rattle.script_text.specs.Weights.{total};
 ghost use Rattle.host_engine.specs.Bounds.{IsPlayable};
+ghost use Rattle.host_engine.specs.Quotas.{all_quotas};
 ghost use Rattle.host_engine.specs.Stands.{IsFreshHost};
 ghost use Rattle.host_engine.specs.declared.host.Host.{Host as HostView};
 ghost use Rattle.schedule_play.specs.World.{EachAt, AllTell, AreOver, Shows, all_requests};
@@ -17,7 +20,7 @@ use block_store::Store;
 use host_engine::Host;
 use host_engine::room::{requests_in, with_room};
 use raid_base::{BayNo, NoMemory};
-use script_text::Script;
+use script_text::{Script, quota};
 use std::alloc::Global;
 
 /// Why a world wasn't made. Each hands all stores back, in order.
@@ -59,6 +62,20 @@ fn all_requests(script: &Script) -> u32
         requests += requests_in(script, jobs.jobs.as_slice()) as u32;
     }
     requests
+}
+
+/// At most so many requests are made to any one bay.
+fn all_quotas(script: &Script) -> u32
+    requires playable { IsPlayable script.now }
+    requires few { all_quotas script.now < 2 ^ 32 }
+    requires jobs { length (all_jobs script.now) < 2 ^ 32 }
+    ensures { result ≡ all_quotas script.now }
+{
+    let mut quotas = 0;
+    for jobs in script.hosts() {
+        quotas += quota(script, jobs.host) as u32;
+    }
+    quotas
 }
 
 /// The first of so many stores that has fewer blocks than there are rows.
@@ -141,11 +158,11 @@ impl<'s, D: Store> World<'s, D> {
         stores: Vec<D>,
     ) -> Result<World<'s, D>, WorldFault<D>>
         requires playable { IsPlayable script.now }
-        requires few { all_requests script.now < 2 ^ 32 }
-        requires jobs { (host : HostNo) → length (jobs_of script.now host) < 2 ^ 32 }
+        requires few { total script.now ≤ 2 ^ 20 }
+        requires jobs { length (all_jobs script.now) < 2 ^ 32 }
         ensures shows { IfOk result (λ world. Shows script.now [] world) }
         ensures tells { EachAt (λ k store. k < script.now.n → IsTrue (D.tells store)) stores.items → IfOk result (λ world. AllTell world.bays.items) }
-        ensures made { IfOk result (λ world. AreMade script.now (all_requests script.now) stores.items world.bays.items) }
+        ensures made { IfOk result (λ world. AreMade script.now (all_quotas script.now) stores.items world.bays.items) }
         ensures others { IfOk result (λ world. world.others.items ≡ drop script.now.n stores.items) }
         ensures over { IfOk result (λ world. AreOver stores.items world.bays.items) }
         ensures blank { IfOk result (λ world. IsBlank script.now world.gathered) }
@@ -160,6 +177,7 @@ impl<'s, D: Store> World<'s, D> {
             return Err(WorldFault::TooSmall(bay, stores));
         }
         let requests = all_requests(script);
+        let quotas = all_quotas(script);
         let turns = match with_room(alloc, requests as usize) {
             Ok(turns) => turns,
             Err(_) => return Err(WorldFault::NoMemory(stores)),
@@ -172,7 +190,7 @@ impl<'s, D: Store> World<'s, D> {
             Ok(gathered) => gathered,
             Err(_) => return Err(WorldFault::NoMemory(stores)),
         };
-        let (bays, others) = make_bays(alloc, script, requests, stores)?;
+        let (bays, others) = make_bays(alloc, script, quotas, stores)?;
         Ok(World {
             script,
             hosts,

@@ -1,8 +1,7 @@
-use Rattle.std.proofs.Common.{◌≡◌, ◌<◌, ◌≤◌, ◌^◌, List, ap, sym, subst, ◌∙◌, arith, length}
+use Rattle.std.proofs.Common.{◌≡◌, ◌<◌, ◌^◌, List, ap, sym, subst, ◌∙◌, arith, length}
 use Rattle.std.specs.Prelude.{sum_by}
 use Rattle.std.proofs.lemmas.List.{take_all}
-use Rattle.raid_base.specs.declared.jobs.Job.{Job}
-use Rattle.script_text.specs.Script.{HostJobs, jobs_of}
+use Rattle.script_text.specs.Script.{HostJobs}
 use Rattle.schedule_play.specs.Gathering.{job_count}
 use Rattle.schedule_play.proofs.MakeLemmas.{jobs-of-item}
 use Rattle.schedule_play.proofs.GatherLemmas.{hosts-few, sum-by-hosts, sum-more}

@@ -4,7 +4,7 @@ use Rattle.raid_base.specs.declared.numbers.HostNo.{HostNo}
 use Rattle.host_engine.specs.declared.host.Host.{Host}
 use Rattle.host_engine.specs.Stands.{IsFreshHost}
 use Rattle.script_text.specs.Script.{HostJobs}
-use Rattle.schedule_play.proofs.MakeLemmas.{jobs-sized, jobs-held, small-of-item, each-push}
+use Rattle.schedule_play.proofs.MakeLemmas.{jobs-aimed, jobs-sized, jobs-held, small-of-item, each-push}
 use Rattle.schedule_play.proofs.making.make_hosts.Goals as goal
 
 pub make-requires-clause-host : goal.make-requires-clause-host
@@ -12,6 +12,9 @@ make-requires-clause-host c =
     let h = c.jobs-item.result in
     let small = small-of-item c.args.script.now c.requires.playable.ranges c.loop-jobs.jobs-index h c.hosts-jobs-items.result.now c.hosts-jobs-items.ensures c.loop-jobs-test.true c.jobs-item.is in
     subst (λ (x : HostJobs). x.host.0 < 16) (sym c.jobs.view_is) small
+
+pub make-requires-clause-aimed : goal.make-requires-clause-aimed
+make-requires-clause-aimed c = jobs-aimed c.args.script.now c.requires.playable.ranges _
 
 pub make-requires-clause-sized : goal.make-requires-clause-sized
 make-requires-clause-sized c = jobs-sized c.args.script.now c.requires.playable.ranges _

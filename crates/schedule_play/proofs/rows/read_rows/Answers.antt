@@ -1,4 +1,4 @@
-use Rattle.std.proofs.Common.{length, refl, arith}
+use Rattle.std.proofs.Common.{length, arith}
 use Rattle.schedule_play.proofs.RowLemmas.{looked-all, failed-since, tell-kept, shows-kept, rows-more, opened-more, one-row, after-all}
 use Rattle.schedule_play.proofs.rows.read_rows.Goals as goal
 

@@ -16,6 +16,14 @@ pub returns-in-Part-clause-stands : goal.returns-in-Part-clause-stands
 returns-in-Part-clause-stands c = λ script host p h.
     subst (λ (e : Ended). Stands script host c.close-in-Part.new.self (attempt_ended script host p c.args.read.now e)) (sym c.in-Part.is) (c.close-in-Part.ensures.stands script host p h)
 
+pub returns-in-Recovered-clause-stands : goal.returns-in-Recovered-clause-stands
+returns-in-Recovered-clause-stands c = λ script host p h.
+    subst (λ (e : Ended). Stands script host c.close-in-Recovered.new.self (attempt_ended script host p c.args.read.now e)) (sym c.in-Recovered.is) (c.close-in-Recovered.ensures.stands script host p h)
+
+pub returns-in-Mended-clause-stands : goal.returns-in-Mended-clause-stands
+returns-in-Mended-clause-stands c = λ script host p h.
+    subst (λ (e : Ended). Stands script host c.mended.new.self (attempt_ended script host p c.args.read.now e)) (sym c.in-Mended.is) (c.mended.ensures.stands script host p h)
+
 pub returns-in-Refused-clause-stands : goal.returns-in-Refused-clause-stands
 returns-in-Refused-clause-stands c = λ script host p h.
     subst (λ (e : Ended). Stands script host c.refused.new.self (attempt_ended script host p c.args.read.now e)) (sym c.in-Refused.is) (c.refused.ensures.stands script host p h)

@@ -9,7 +9,7 @@ abbrev pub invariant-loop-self : goal.invariant-loop-self
 invariant-loop-self l = record {
   keeps : KeepsRoom l.initial.self l.self;
   fresh : l.self.tries ≡ 0;
-  none : l.self.attempt ≡ None;
+  none : l.self.duty ≡ None;
   goes : (script : Script) (host : HostNo) (p : Progress) → Counts script host l.initial.self p →
       (q : Progress) × Counts script host l.self q × (start_jobs script host p.jobs p ≡ start_jobs script host q.jobs q);
 }

@@ -1,45 +1,46 @@
-use Rattle.std.proofs.Common.{◌≡◌, ap, sym, ◌∙◌, refl}
-use Rattle.raid_base.specs.Steps.{answer}
-use Rattle.host_engine.specs.Left.{left}
-use Rattle.host_engine.specs.Plain.{contents_in}
-use Rattle.host_engine.specs.declared.attempt.Attempt.{Attempt}
-use Rattle.host_engine.proofs.TakeLemmas.{next-none, call-of, noted-call, takes-on, takes-end, end-within, in-hand, counts-idle}
+use Rattle.std.proofs.Common.{◌≡◌, Some, ap, sym, ◌∙◌, refl}
+use Rattle.host_engine.specs.declared.duty.Duty.TheVariants as duties
+use Rattle.host_engine.proofs.TakeLemmas.{next-none, call-of, noted-call, may-hear, takes-all, loses-as, fits-as}
 use Rattle.host_engine.proofs.host.Host.take.Goals as goal
 
 pub unreachable-requires : goal.unreachable-requires
 unreachable-requires c = next-none c.args.self.now c.args.moment c.args.answer.now c.requires.ready c.next.result c.next.ensures c.in-None.is
 
-pub finish-requires-clause-room : goal.finish-requires-clause-room
-finish-requires-clause-room c =
-    let same : c.in-Some-take.attempt ≡ c.tell.ensures.told.now = in-hand c.take.result c.tell.new.self.attempt c.in-Some-take.attempt c.tell.ensures.told.now c.in-Some-take.is c.take.ensures.value c.tell.ensures.told.still_in_hand in
-    (end-within c.args.self.now _ c.tell.new.self c.args.moment c.args.answer.now c.requires.ready c.tell.result c.in-Some-tell.ended c.contents.result.now
-    (record { number = refl; plays = refl; listed = refl; job = refl; tries = refl; numbers = refl; attempt = refl; results = refl; contents = refl; clock_is = refl })
-    c.tell.ensures.told c.in-Some-tell.is (λ blocks. c.contents.ensures blocks ∙ ap (λ (a : Attempt). contents_in (answer (left a blocks))) same)).1
+pub tell-requires-clause-ready : goal.tell-requires-clause-ready
+tell-requires-clause-ready c =
+    may-hear c.args.self.now c.note.new.self c.args.moment c.args.answer.now c.requires.ready (record { bay = c.in-Some.sent.0; ask = c.in-Some.sent.1; answer = c.args.answer.now }) refl c.note.ensures.noted
 
-pub finish-requires-clause-plain : goal.finish-requires-clause-plain
-finish-requires-clause-plain c =
-    let same : c.in-Some-take.attempt ≡ c.tell.ensures.told.now = in-hand c.take.result c.tell.new.self.attempt c.in-Some-take.attempt c.tell.ensures.told.now c.in-Some-take.is c.take.ensures.value c.tell.ensures.told.still_in_hand in
-    (end-within c.args.self.now _ c.tell.new.self c.args.moment c.args.answer.now c.requires.ready c.tell.result c.in-Some-tell.ended c.contents.result.now
-    (record { number = refl; plays = refl; listed = refl; job = refl; tries = refl; numbers = refl; attempt = refl; results = refl; contents = refl; clock_is = refl })
-    c.tell.ensures.told c.in-Some-tell.is (λ blocks. c.contents.ensures blocks ∙ ap (λ (a : Attempt). contents_in (answer (left a blocks))) same)).0
+pub tell-requires-clause-trying : goal.tell-requires-clause-trying
+tell-requires-clause-trying c =
+    let held : c.note.new.self.duty ≡ Some c.in-Some-Trying.field-0 = c.in-Some-Trying.is in
+    let one : c.in-Some-Trying.field-0 ≡ duties.Trying c.in-Some-Trying.field-0-0 = rw held at c.in-Some-Trying.field-0-is in
+    (c.in-Some-Trying.field-0-0, held ∙ ap Some one)
 
-pub returns-in-Some-take : goal.returns-in-Some-take
-returns-in-Some-take c = λ sent is.
+pub returns-in-Some-Trying : goal.returns-in-Some-Trying
+returns-in-Some-Trying c = λ sent is.
     let pair = c.in-Some.sent in
     let called = call-of c.args.self.now c.args.moment c.args.answer.now c.requires.ready pair.0 pair.1 sent (λ script host p s. sym c.in-Some.is ∙ c.next.ensures script host p s) is in
-    let same : c.in-Some-take.attempt ≡ c.tell.ensures.told.now = in-hand c.take.result c.tell.new.self.attempt c.in-Some-take.attempt c.tell.ensures.told.now c.in-Some-take.is c.take.ensures.value c.tell.ensures.told.still_in_hand in
-    takes-end c.args.self.now _ c.tell.new.self c.finish.new.self c.args.moment c.args.answer.now c.tell.result c.in-Some-tell.ended c.contents.result.now sent
-    (record { number = refl; plays = refl; listed = refl; job = refl; tries = refl; numbers = refl; attempt = refl; results = refl; contents = refl; clock_is = refl })
-    c.tell.ensures.told c.in-Some-tell.is (λ blocks. c.contents.ensures blocks ∙ ap (λ (a : Attempt). contents_in (answer (left a blocks))) same)
-    (noted-call c.args.self.now.transcript.items _ c.args.answer.now pair.0 pair.1 sent c.push_reserved.ensures.items called) c.push_reserved.ensures.capacity
-    c.finish.ensures.room.transcript c.finish.ensures.room.contents
-    (λ script host p counts. c.finish.ensures.stands script host p (counts-idle script host c.tell.new.self _ p counts refl refl refl refl refl refl refl refl refl))
+    takes-all c.args.self.now c.note.new.self c.tell.new.self c.args.moment c.args.answer.now sent c.note.ensures.noted
+    (noted-call c.args.self.now.transcript.items _ c.args.answer.now pair.0 pair.1 sent c.note.ensures.call called) c.note.ensures.room c.tell.ensures.room c.tell.ensures.stands
 
-pub returns-in_default : goal.returns-in_default
-returns-in_default c = λ sent is.
+pub returns-in-Some-Losing : goal.returns-in-Some-Losing
+returns-in-Some-Losing c = λ sent is.
+    let held : c.note.new.self.duty ≡ Some c.in-Some-Losing.field-0 = c.in-Some-Losing.is in
+    let one : c.in-Some-Losing.field-0 ≡ duties.Losing c.in-Some-Losing.bay = rw held at c.in-Some-Losing.field-0-is in
     let pair = c.in-Some.sent in
     let called = call-of c.args.self.now c.args.moment c.args.answer.now c.requires.ready pair.0 pair.1 sent (λ script host p s. sym c.in-Some.is ∙ c.next.ensures script host p s) is in
-    takes-on c.args.self.now _ c.tell.new.self c.args.moment c.args.answer.now c.tell.result sent
-    (record { number = refl; plays = refl; listed = refl; job = refl; tries = refl; numbers = refl; attempt = refl; results = refl; contents = refl; clock_is = refl })
-    c.tell.ensures.told c.in_default.is c.tell.new.self.plain
-    (noted-call c.args.self.now.transcript.items _ c.args.answer.now pair.0 pair.1 sent c.push_reserved.ensures.items called) c.push_reserved.ensures.capacity
+    takes-all c.args.self.now c.note.new.self c.change.new.self c.args.moment c.args.answer.now sent c.note.ensures.noted
+    (noted-call c.args.self.now.transcript.items _ c.args.answer.now pair.0 pair.1 sent c.note.ensures.call called) c.note.ensures.room c.change.ensures.room
+    (λ script host p s. loses-as script host c.note.new.self c.change.new.self p c.args.answer.now.reply c.in-Some-Losing.bay s
+    (held ∙ ap Some one) (c.change.ensures.stands script host p s.counts))
+
+pub returns-in-Some-Fitting : goal.returns-in-Some-Fitting
+returns-in-Some-Fitting c = λ sent is.
+    let held : c.note.new.self.duty ≡ Some c.in-Some-Fitting.field-0 = c.in-Some-Fitting.is in
+    let one : c.in-Some-Fitting.field-0 ≡ duties.Fitting c.in-Some-Fitting.bay = rw held at c.in-Some-Fitting.field-0-is in
+    let pair = c.in-Some.sent in
+    let called = call-of c.args.self.now c.args.moment c.args.answer.now c.requires.ready pair.0 pair.1 sent (λ script host p s. sym c.in-Some.is ∙ c.next.ensures script host p s) is in
+    takes-all c.args.self.now c.note.new.self c.change-in-Some-Fitting.new.self c.args.moment c.args.answer.now sent c.note.ensures.noted
+    (noted-call c.args.self.now.transcript.items _ c.args.answer.now pair.0 pair.1 sent c.note.ensures.call called) c.note.ensures.room c.change-in-Some-Fitting.ensures.room
+    (λ script host p s. fits-as script host c.note.new.self c.change-in-Some-Fitting.new.self p c.args.answer.now.reply c.in-Some-Fitting.bay s
+    (held ∙ ap Some one) (c.change-in-Some-Fitting.ensures.stands script host p s.counts))

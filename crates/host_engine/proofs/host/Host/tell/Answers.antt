@@ -1,39 +1,45 @@
-use Rattle.std.proofs.Common.{◌≡◌, ℕ, ◌-◌, List, length, take, drop, refl, sym, ap, ◌∙◌, subst}
-use Rattle.std.proofs.Math.Seq.{take-length}
-use Rattle.std.proofs.lemmas.List.{length-drop}
-use Rattle.raid_base.specs.Steps.{told}
-use Rattle.host_engine.specs.Left.{left, Suits}
-use Rattle.host_engine.specs.Plain.{first_blocks}
+use Rattle.std.proofs.Common.{Some, refl, sym, ap, ◌∙◌, subst}
+use Rattle.raid_base.specs.Steps.{answer}
+use Rattle.host_engine.specs.Left.{left}
+use Rattle.host_engine.specs.Plain.{contents_in}
+use Rattle.host_engine.specs.Progress.{Progress}
+use Rattle.host_engine.specs.Stands.{Stands}
+use Rattle.host_engine.specs.declared.attempt.Attempt.{Attempt}
+use Rattle.host_engine.proofs.HostLemmas.{counts-idle}
+use Rattle.host_engine.proofs.TakeLemmas.{advances, ends-as, stands-on, stands-quit, end-within, end-needs, open-asking, open-ends, in-hand}
 use Rattle.host_engine.proofs.host.Host.tell.Goals as goal
 
-pub returns : goal.returns
-returns c =
-    let numbers = c.args.self.now.numbers in
-    let jobs = c.args.self.now.jobs.now in
-    let from = c.args.self.now.job in
-    let tail : take (length jobs - from) (drop from jobs) ≡ drop from jobs = ap (λ (k : ℕ). take k (drop from jobs)) (sym (length-drop from jobs)) ∙ take-length (drop from jobs) in
-    let blocks = c.first_blocks-blocks.ensures ∙ ap (first_blocks c.args.self.now.script.now) tail in
-    let was = c.in-Some.attempt in
-    let now = c.take.new.self in
-    record {
-      told = record {
-        was = was;
-        now = now;
-        in_hand = c.in-Some.is;
-        still_in_hand = refl;
-        steps = subst (λ (bs : List (List ℕ)). record { seen = c.take.new.numbers.seen; steps = left now bs } ≡ told numbers.host (record { seen = numbers.seen; steps = left was bs }) c.args.reply.now)
-            blocks c.take.ensures.steps;
-        suits = subst (λ (bs : List (List ℕ)). Suits now bs) blocks c.take.ensures.suits;
-        ends = c.end.ensures;
-        draws_for = c.take.ensures.host;
-        number = refl;
-        plays = refl;
-        listed = refl;
-        job = refl;
-        tries = refl;
-        clock = refl;
-        results = refl;
-        contents = refl;
-        transcript = refl;
-      };
-    }
+pub finish-requires-clause-room : goal.finish-requires-clause-room
+finish-requires-clause-room c =
+    end-within c.args.self.now c.hear.new.self c.args.reply.now c.requires.ready c.hear.result c.in-Some.ended c.contents.result.now c.hear.ensures.told c.in-Some.is
+    (λ blocks. c.contents.ensures blocks ∙ ap (λ (a : Attempt). contents_in (answer (left a blocks))) (in-hand c.take.result c.hear.new.self.duty c.in-Some-Trying.attempt c.hear.ensures.told.now (c.in-Some-Trying.is ∙ ap Some c.in-Some-Trying.field-0-is) c.take.ensures.value c.hear.ensures.told.still_in_hand))
+
+pub finish-requires-clause-tried : goal.finish-requires-clause-tried
+finish-requires-clause-tried c = (end-needs c.args.self.now c.hear.new.self c.args.reply.now c.requires.ready c.hear.result c.hear.ensures.told).1
+
+pub quit-requires-clause-trying : goal.quit-requires-clause-trying
+quit-requires-clause-trying c =
+    open-asking c.hear.new.self c.hear.ensures.told.now c.hear.ensures.told.still_in_hand (open-ends c.hear.ensures.told.now c.hear.result c.in-None.is c.hear.ensures.told.ends)
+
+pub returns-in-Some-Trying-clause-stands : goal.returns-in-Some-Trying-clause-stands
+unfolding advances
+returns-in-Some-Trying-clause-stands c = λ script host p s.
+    let a = advances script host c.args.self.now c.hear.new.self p c.args.reply.now c.hear.result s c.hear.ensures.told in
+    subst (λ (q : Progress). Stands script host c.finish.new.self q)
+    (sym (ends-as script host c.hear.new.self p c.args.reply.now a c.in-Some.ended c.contents.result.now (λ blocks. sym c.in-Some.is ∙ c.hear.ensures.told.ends blocks)
+    (λ blocks. c.contents.ensures blocks ∙ ap (λ (t : Attempt). contents_in (answer (left t blocks))) (in-hand c.take.result c.hear.new.self.duty c.in-Some-Trying.attempt c.hear.ensures.told.now (c.in-Some-Trying.is ∙ ap Some c.in-Some-Trying.field-0-is) c.take.ensures.value c.hear.ensures.told.still_in_hand))))
+    (c.finish.ensures.stands script host a.p2 (counts-idle script host c.hear.new.self _ a.p2 a.counts refl refl refl refl refl refl refl refl refl refl refl refl))
+
+pub returns-then-stops-clause-stands : goal.returns-then-stops-clause-stands
+unfolding advances
+returns-then-stops-clause-stands c = λ script host p s.
+    let a = advances script host c.args.self.now c.hear.new.self p c.args.reply.now c.hear.result s c.hear.ensures.told in
+    stands-quit script host c.hear.new.self c.quit.new.self p c.args.reply.now a (sym (c.stops.ensures script host a.p2 a.counts) ∙ c.if-stops.true)
+    (open-ends c.hear.ensures.told.now c.hear.result c.in-None.is c.hear.ensures.told.ends) (c.quit.ensures.stands script host a.p2 a.counts)
+
+pub returns-else-stops-clause-stands : goal.returns-else-stops-clause-stands
+unfolding advances
+returns-else-stops-clause-stands c = λ script host p s.
+    let a = advances script host c.args.self.now c.hear.new.self p c.args.reply.now c.hear.result s c.hear.ensures.told in
+    stands-on script host c.hear.new.self p c.args.reply.now a (sym (c.stops.ensures script host a.p2 a.counts) ∙ c.if-stops.false)
+    (open-ends c.hear.ensures.told.now c.hear.result c.in-None.is c.hear.ensures.told.ends)

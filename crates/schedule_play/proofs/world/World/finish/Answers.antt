@@ -1,4 +1,4 @@
-use Rattle.std.proofs.Common.{◌≡◌, ◌≤◌, List, ◌++◌, length, sym, ap, ◌∙◌, subst, arith, Option, Bool, IfErr}
+use Rattle.std.proofs.Common.{◌≤◌, List, ◌++◌, length, sym, ap, ◌∙◌, subst, arith, Option, Bool, IfErr}
 use Rattle.std.specs.Prelude.{flat_map, sum_by}
 use Rattle.std.specs.Vec.{vec_capacity}
 use Rattle.std.proofs.lemmas.Result.{IfOk-weaker}
@@ -34,6 +34,11 @@ collect_contents-requires g c =
     let same = ap (λ (hosts : List Host). length (flat_map (λ (host : Host). host.contents.items) hosts)) c.as_slice-2.ensures.value in
     record { room = omega (arith, few, room, same, ap length b.contents, c.args.self.now.gathered.contents.ok.0) }
 
+pub returns-clause-results : goal.returns-clause-results
+returns-clause-results g c = λ script history shows.
+    c.collect_results.ensures.items ∙ ap (λ (xs : List JobResult). xs ++ flat_map (λ (host : Host). host.results.items) c.as_slice.result.now) c.requires.blank.results
+    ∙ ap (flat_map (λ (host : Host). host.results.items)) c.as_slice.ensures.value ∙ shows-results script history c.args.self.now shows
+
 pub returns-clause-gathered : goal.returns-clause-gathered
 returns-clause-gathered g c = λ told script history shows.
     let b = c.requires.blank in
@@ -43,8 +48,7 @@ returns-clause-gathered g c = λ told script history shows.
     let shown = subst (ShowRows script history) (sym lent) (record { wide = wide; count = shows.bay_count; shows = shows.bays; told = told }) in
     let rows = c.row_count-rows.ensures ∙ ap (λ (s : Script). s.rows) shows.plays in
     IfOk-weaker c.read_rows.result _ _ (λ u after. record {
-      results = c.collect_results.ensures.items ∙ ap (λ (xs : List JobResult). xs ++ flat_map (λ (host : Host). host.results.items) c.as_slice.result.now) b.results
-          ∙ ap (flat_map (λ (host : Host). host.results.items)) c.as_slice.ensures.value ∙ shows-results script history c.args.self.now shows;
+      results = returns-clause-results g c script history shows;
       contents = c.collect_contents.ensures.items ∙ ap (λ (xs : List Content). xs ++ flat_map (λ (host : Host). host.contents.items) c.as_slice-2.result.now) b.contents
           ∙ ap (flat_map (λ (host : Host). host.contents.items)) c.as_slice-2.ensures.value ∙ shows-contents script history c.args.self.now shows;
       cells = after.0 ∙ ap (λ (xs : List (Option Cell)). xs ++ cells_after script history) b.cells;

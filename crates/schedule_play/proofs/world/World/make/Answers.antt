@@ -3,7 +3,23 @@ use Rattle.script_text.specs.Script.{Script}
 use Rattle.schedule_play.specs.Making.{IsMade}
 use Rattle.schedule_play.proofs.MakeLemmas.{host-at-start, bay-at-start}
 use Rattle.schedule_play.proofs.KeepLemmas.{made-over}
+use Rattle.schedule_play.proofs.QuotaLemmas.{jobs-few, requests-few, quotas-few}
 use Rattle.schedule_play.proofs.world.World.make.Goals as goal
+
+pub all_requests-requests-requires-clause-few : goal.all_requests-requests-requires-clause-few
+all_requests-requests-requires-clause-few g c = requests-few c.args.script.now c.requires.playable c.requires.few
+
+pub all_requests-requests-requires-clause-jobs : goal.all_requests-requests-requires-clause-jobs
+all_requests-requests-requires-clause-jobs g c = jobs-few c.args.script.now c.requires.jobs
+
+pub all_quotas-quotas-requires-clause-few : goal.all_quotas-quotas-requires-clause-few
+all_quotas-quotas-requires-clause-few g c = quotas-few c.args.script.now c.requires.playable c.requires.few
+
+pub make_hosts-requires-clause-jobs : goal.make_hosts-requires-clause-jobs
+make_hosts-requires-clause-jobs g c = jobs-few c.args.script.now c.requires.jobs
+
+pub make-requires-clause-jobs : goal.make-requires-clause-jobs
+make-requires-clause-jobs g c = jobs-few c.args.script.now c.requires.jobs
 
 pub returns-clause-shows : goal.returns-clause-shows
 returns-clause-shows g c = record {
@@ -13,7 +29,7 @@ returns-clause-shows g c = record {
   numbers = c.in-Ok-make_hosts.ensures.numbers;
   bays = λ k e h.
       let m = c.in_ok-bays.ensures.made k e.store e h in
-      bay-at-start c.args.script.now k (get_or c.args.stores.items k e.store) (get_or c.in_ok-bays.bays.items k e) (subst (λ (n : ℕ). IsMade {D = g.row.D.Denot} {g = g.D.Store} c.args.script.now n (get_or c.args.stores.items k e.store) (get_or c.in_ok-bays.bays.items k e)) c.all_requests-requests.ensures m);
+      bay-at-start c.args.script.now k (get_or c.args.stores.items k e.store) (get_or c.in_ok-bays.bays.items k e) (subst (λ (n : ℕ). IsMade {D = g.row.D.Denot} {g = g.D.Store} c.args.script.now n (get_or c.args.stores.items k e.store) (get_or c.in_ok-bays.bays.items k e)) c.all_quotas-quotas.ensures m);
   bay_count = c.in_ok-bays.ensures.count;
   turns = c.in-Ok.ensures.items;
   turn_room = omega (arith, c.in-Ok.ensures.room, c.all_requests-requests.ensures);
@@ -29,8 +45,8 @@ returns-clause-tells g c = λ all k e h.
 
 pub returns-clause-made : goal.returns-clause-made
 returns-clause-made g c = λ k d e h.
-    subst (λ (n : ℕ). IsMade {D = g.row.D.Denot} {g = g.D.Store} c.args.script.now n (get_or c.args.stores.items k d) (get_or c.in_ok-bays.bays.items k e)) c.all_requests-requests.ensures
+    subst (λ (n : ℕ). IsMade {D = g.row.D.Denot} {g = g.D.Store} c.args.script.now n (get_or c.args.stores.items k d) (get_or c.in_ok-bays.bays.items k e)) c.all_quotas-quotas.ensures
     (c.in_ok-bays.ensures.made k d e h)
 
 pub returns-clause-over : goal.returns-clause-over
-returns-clause-over g c = λ k d e h. made-over c.args.script.now c.all_requests-requests.result (get_or c.args.stores.items k d) (get_or c.in_ok-bays.bays.items k e) (c.in_ok-bays.ensures.made k d e h)
+returns-clause-over g c = λ k d e h. made-over c.args.script.now c.all_quotas-quotas.result (get_or c.args.stores.items k d) (get_or c.in_ok-bays.bays.items k e) (c.in_ok-bays.ensures.made k d e h)

@@ -1,4 +1,4 @@
-use Rattle.std.proofs.Common.{◌<◌, ◌^◌, ℕ, sym, subst, refl, ◌∙◌}
+use Rattle.std.proofs.Common.{◌<◌, ◌^◌, ℕ, sym, subst}
 use Rattle.schedule_play.proofs.PlayLemmas.{round-turn, round-smaller, round-ready, round-reaches, rounds-start, rounds-end, found-nothing, found-inside, next-small}
 use Rattle.schedule_play.proofs.KeepLemmas.{keeps-nothing, keeps-both}
 use Rattle.schedule_play.proofs.world.World.play_rounds.Goals as goal
