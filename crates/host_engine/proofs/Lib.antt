@@ -21,3 +21,7 @@ pub mod SmallSlots
 pub mod SmallAttempts
 pub mod SmallHosts
 pub mod SmallHistory
+pub mod CompleteWalks
+pub mod CompleteReads
+pub mod CompleteWrites
+pub mod CompleteHistory

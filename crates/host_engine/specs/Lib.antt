@@ -15,3 +15,4 @@ pub mod Quotas
 pub mod Endings
 pub mod Ready
 pub mod Smallness
+pub mod Completeness

@@ -3,6 +3,7 @@ ghost use Rattle.host_engine.specs.HostLaws.{RequestsAreBounded, CausesAreMet};
 ghost use Rattle.host_engine.specs.Endings.{EndingsAreFilled};
 ghost use Rattle.host_engine.specs.Quotas.{RequestsKeepQuotas, TotalsCoverRequests};
 ghost use Rattle.host_engine.specs.Smallness.{NumbersStaySmall};
+ghost use Rattle.host_engine.specs.Completeness.{UnrefusedJobsAreDone};
 
 /// Along every history of a script each host has requests enough for what it has left to do: only hosts of the script
 /// ask, each at most as often as all allowed attempts of its jobs together, and no clock is above the number of calls.
@@ -38,4 +39,10 @@ pub fn causes_are_met()
 /// want of numbers.
 pub fn numbers_stay_small()
     ensures { NumbersStaySmall }
+{}
+
+/// Along every history of a script whose total is at most 2^20 a read or a write that has parts, and whose host is not to
+/// stop in it, is done where its last attempt met no refusal.
+pub fn unrefused_jobs_are_done()
+    ensures { UnrefusedJobsAreDone }
 {}

@@ -1,0 +1,44 @@
+-- Jobs that meet no refusal are done.
+use Rattle.std.specs.Prelude.{◌≡◌, ◌^◌, ◌≤◌, false, List, None, IsOk}
+use Rattle.std.specs.List.{AllByRecursion}
+use Rattle.raid_base.specs.declared.numbers.HostNo.{HostNo}
+use Rattle.raid_base.specs.declared.messages.Call.{Call}
+use Rattle.raid_base.specs.declared.jobs.Task.{Task}
+use Rattle.raid_base.specs.declared.jobs.Task.TheVariants as tasks
+use Rattle.raid_base.specs.declared.jobs.JobEnd.{JobEnd}
+use Rattle.raid_base.specs.declared.jobs.JobEnd.TheVariants as ends
+use Rattle.slot_rules.specs.Laws.{is_refused}
+use Rattle.script_text.specs.Script.{Script}
+use Rattle.script_text.specs.Ranges.{IsScript}
+use Rattle.script_text.specs.Weights.{total}
+use Rattle.host_engine.specs.Plain.{task_parts}
+use Rattle.host_engine.specs.Progress.{Ending}
+use Rattle.host_engine.specs.Causes.{IsReadOrWrite}
+use Rattle.host_engine.specs.History.{IsHistory, endings_at}
+
+-- no reply among these calls refuses
+abbrev pub AreUnrefused : List Call → Type 0
+AreUnrefused calls = AllByRecursion (λ (call : Call). is_refused call.answer.reply ≡ false) calls
+
+-- how a read ends that is done
+abbrev pub IsReadDone : JobEnd → Type 0
+IsReadDone (ends.Read n) = Unit {0}
+IsReadDone _ = ⊥
+
+-- and a write
+abbrev pub IsWriteDone : JobEnd → Type 0
+IsWriteDone (ends.Wrote n) = Unit {0}
+IsWriteDone _ = ⊥
+
+-- a read or a write ends as done; of other tasks nothing is said
+abbrev pub IsDoneBy : Task → JobEnd → Type 0
+IsDoneBy (tasks.Read object first count) ended = IsReadDone ended
+IsDoneBy (tasks.Write object first from count) ended = IsWriteDone ended
+IsDoneBy _ ended = Unit {0}
+
+-- A read or a write that has parts, and whose host is not to stop in it, is done where its last attempt met no refusal.
+abbrev pub UnrefusedJobsAreDone : Type 0
+UnrefusedJobsAreDone = (script : Script) (history : List Call) → IsScript script → total script ≤ 2 ^ 20 → IsHistory script history → (host : HostNo) →
+    AllByRecursion
+    (λ (e : Ending). IsReadOrWrite e.job.task → e.job.quit ≡ None → IsOk (task_parts script e.job.task) → AreUnrefused e.calls → IsDoneBy e.job.task e.ended)
+    (endings_at script history host)
