@@ -6,6 +6,7 @@ pub mod Faults
 pub mod RowStates
 pub mod Headline
 pub mod Laws
+pub mod Leftovers
 pub mod FirstForm
 pub mod Rows
 pub mod Gathering

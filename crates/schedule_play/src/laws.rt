@@ -1,6 +1,7 @@
 //! Laws of plays, each the contract of a function without a body.
 ghost use Rattle.schedule_play.specs.FirstForm.{FirstPlaysAreSerial, FirstPlaysKeepParity, FirstFormsAreFirst};
 ghost use Rattle.schedule_play.specs.Laws.{OneIsMissing};
+ghost use Rattle.schedule_play.specs.Leftovers.{RefusedLeaveNothing};
 
 /// One host writes a block of a row of two units under stamps, and then reads it. Each such play in which no store fails
 /// and which comes to its end is serial: its results and contents are those of a serial array, and so is each block that
@@ -23,4 +24,11 @@ pub fn first_forms_are_first()
 /// One bay is missing at most: after every history of a script two bays that have a slot without a cell are the same.
 pub fn one_bay_is_missing()
     ensures { OneIsMissing }
+{}
+
+/// A refused attempt leaves nothing: after every history of a script each note and each reader that stands in a slot has
+/// the id of an attempt of its host that is in hand, or that its host's stop has ended, or that was done in part, or that
+/// is a recovery.
+pub fn refused_attempts_leave_nothing()
+    ensures { RefusedLeaveNothing }
 {}
