@@ -10,3 +10,4 @@ pub mod Leftovers
 pub mod FirstForm
 pub mod Rows
 pub mod Gathering
+pub mod Ids

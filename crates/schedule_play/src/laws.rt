@@ -1,6 +1,7 @@
 //! Laws of plays, each the contract of a function without a body.
 ghost use Rattle.schedule_play.specs.FirstForm.{FirstPlaysAreSerial, FirstPlaysKeepParity, FirstFormsAreFirst};
-ghost use Rattle.schedule_play.specs.Laws.{OneIsMissing};
+ghost use Rattle.schedule_play.specs.Ids.{IdsAreApart};
+ghost use Rattle.schedule_play.specs.Laws.{OneIsMissing, AccessesAreCovered};
 ghost use Rattle.schedule_play.specs.Leftovers.{RefusedLeaveNothing};
 
 /// One host writes a block of a row of two units under stamps, and then reads it. Each such play in which no store fails
@@ -31,4 +32,16 @@ pub fn one_bay_is_missing()
 /// is a recovery.
 pub fn refused_attempts_leave_nothing()
     ensures { RefusedLeaveNothing }
+{}
+
+/// No two attempts have one id: after every history of a script each id that was asked with is its host's, who has seen
+/// it, all calls with the id of an attempt in hand are that attempt's, and a note has the id of a claim of its host.
+pub fn ids_are_apart()
+    ensures { IdsAreApart }
+{}
+
+/// After every history of a script the number of each read and write of a slot is at most the bay's high number, and at
+/// most the slot's own numbers while its device is there.
+pub fn accesses_are_covered()
+    ensures { AccessesAreCovered }
 {}
