@@ -24,6 +24,7 @@ use Rattle.host_engine.specs.Bounds.{IsPlayable}
 use Rattle.host_engine.specs.History.{turns_of}
 use Rattle.host_engine.proofs.Quotas.{totals_cover_requests}
 use Rattle.host_engine.proofs.HostCauses.{causes_are_met}
+use Rattle.host_engine.proofs.CompleteHistory.{unrefused_jobs_are_done}
 use Rattle.report_text.specs.Report.{ReportOf, report_text}
 use Rattle.report_text.specs.Views.{report_in}
 use Rattle.load_maker.specs.Load.{load_script}
@@ -40,6 +41,7 @@ use Rattle.schedule_play.specs.declared.world.World.{World}
 use Rattle.schedule_play.specs.declared.making.WorldFault.{WorldFault}
 use Rattle.schedule_play.specs.declared.making.WorldFault.TheVariants as faults
 use Rattle.schedule_play.proofs.FirstReport.{first-report}
+use Rattle.schedule_play.proofs.LoneBays.{lone_hosts_are_done}
 use Rattle.schedule_play.proofs.FirstSerial.{first_plays_are_serial}
 use Rattle.schedule_play.proofs.FirstParity.{first_plays_keep_parity}
 use Rattle.schedule_play.proofs.CloseLemmas.{closed-journals, closed-stores, closed-back}
@@ -178,9 +180,9 @@ module _ {D : Type 0} {g : Ghosts D} where
   }
 
   -- the play that is handed out
-  pub is-played : Whole g → (script : Script) → IsScript script → (history : List Call) (now : World D g) (outcome : Outcome D) → Shows script history now → HasEnded script history now →
+  pub is-played : Whole g → (script : Script) → IsScript script → total script ≤ 2 ^ 20 → (history : List Call) (now : World D g) (outcome : Outcome D) → Shows script history now → HasEnded script history now →
       outcome.results.items ≡ results script history → IsHandedOut now outcome → IsPlayed script (handed_out g outcome) history
-  is-played whole script is history now outcome shows at read out = record {
+  is-played whole script is few history now outcome shows at read out = record {
     play = record {
       most = all_requests script;
       played = at.played;
@@ -192,6 +194,8 @@ module _ {D : Type 0} {g : Ghosts D} where
           (closed-stores script history now.bays.items now.others.items shows.bays at.told shows.bay_count whole);
     };
     causes = λ host. causes_are_met script history is (shows.told at.told) host;
+    unrefused = unrefused_jobs_are_done script history is few (shows.told at.told);
+    alone = lone_hosts_are_done script history is few (shows.told at.told);
     serial = λ form well. first_plays_are_serial script history (all_requests script) (is-first script form) at.played well at.over;
     parity = λ form well. first_plays_keep_parity script history (all_requests script) (is-first script form) at.played well;
     lost_blocks = λ form well. (first-report script history (all_requests script) (is-first script form) at.played well at.over).lost_blocks;
@@ -211,10 +215,10 @@ module _ {D : Type 0} {g : Ghosts D} where
       ∙ report-is script history is (contents-whole script history is)
 
   -- a store has failed in the final reading
-  pub unread-stops : Whole g → (script : Script) → IsScript script → (stores : List D) (history : List Call) (before now : World D g) (bay : BayNo) (outcome : Outcome D) → IsOverStores script stores before →
+  pub unread-stops : Whole g → (script : Script) → IsScript script → total script ≤ 2 ^ 20 → (stores : List D) (history : List Call) (before now : World D g) (bay : BayNo) (outcome : Outcome D) → IsOverStores script stores before →
       IsOverStores script stores now → Shows script history before → Shows script history now → outcome.status ≡ StoreFault bay → IsHandedOut now outcome → outcome.results.items ≡ results script history →
       HasFailed bay.0 before.bays.items now.bays.items → (AllTell g script stores → HasEnded script history now) → IsUnplayed g script stores outcome
-  unread-stops whole script valid stores history before now bay outcome was over shown shows is out read failed ends =
+  unread-stops whole script valid few stores history before now bay outcome was over shown shows is out read failed ends =
       let here : bay.0 < length now.bays.items = omega (arith, failed.inside, was.count, over.count) in
       let below : bay.0 < script.n = omega (arith, here, over.count) in
       let same : (d e : Bay D g) → (get_or before.bays.items bay.0 d).journal.items ≡ (get_or now.bays.items bay.0 e).journal.items =
@@ -228,7 +232,7 @@ module _ {D : Type 0} {g : Ghosts D} where
               subst (λ (js : List Entry). RisesBy (count_faults js + 1) (g.faults (get_or stores bay.0 d)) (g.faults (get_or now.bays.items bay.0 e).store)) (same e e)
               (rises-more (count_faults (get_or before.bays.items bay.0 e).journal.items) (g.faults (get_or stores bay.0 d)) (g.faults (get_or before.bays.items bay.0 e).store) (g.faults (get_or now.bays.items bay.0 e).store)
               (was.over bay.0 d e failed.inside).faults (failed.risen e)));
-          played = λ tells. (history, is-played whole script valid history now outcome shows (ends tells) read out);
+          played = λ tells. (history, is-played whole script valid few history now outcome shows (ends tells) read out);
         }),
       )
 
@@ -288,11 +292,11 @@ module _ {K D : Type 0} (k : SinkGhosts K) (g : Ghosts D) where
   stopped-played script sink stores outcome print NotYet h = absurd h
 
   -- the report was printed, or a part of it
-  pub reported-played : Whole g → (script : Script) → IsScript script → (sink after : K) (stores : List D) (now : World D g) (outcome : Outcome D) (print : ReportOf → List ℕ) →
+  pub reported-played : Whole g → (script : Script) → IsScript script → total script ≤ 2 ^ 20 → (sink after : K) (stores : List D) (now : World D g) (outcome : Outcome D) (print : ReportOf → List ℕ) →
       IsFinished g script stores now → IsHandedOut now outcome →
       HasPrinted k (print (report_in script now.gathered.results.items now.gathered.contents.items now.turns.items now.gathered.cells.items now.gathered.opened.items)) sink after outcome.status →
       HasPlayed k g print script sink after stores outcome outcome.status
-  reported-played whole script is sink after stores now outcome print f out printed = go outcome.status printed
+  reported-played whole script is few sink after stores now outcome print f out printed = go outcome.status printed
     where
       report : ReportOf
       report = report_in script now.gathered.results.items now.gathered.contents.items now.turns.items now.gathered.cells.items now.gathered.opened.items
@@ -306,7 +310,7 @@ module _ {K D : Type 0} (k : SinkGhosts K) (g : Ghosts D) where
           record {
             history = f.history;
             input_output = report-of script is f.history now f.shows end.1;
-            played = is-played whole script is f.history now outcome f.shows end.0 (ap (λ (r : _). r.items) out.results ∙ end.1.results) out;
+            played = is-played whole script is few f.history now outcome f.shows end.0 (ap (λ (r : _). r.items) out.results ∙ end.1.results) out;
           }
 
       go : (status : Status) → HasPrinted k (print report) sink after status → HasPlayed k g print script sink after stores outcome status

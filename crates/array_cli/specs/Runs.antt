@@ -17,11 +17,13 @@ use Rattle.script_text.specs.Faults.{fault_in}
 use Rattle.script_text.specs.Ranges.{IsScript}
 use Rattle.script_text.specs.Weights.{total}
 use Rattle.report_text.specs.Report.{ReportOf, report_text}
+use Rattle.host_engine.specs.Completeness.{UnrefusedAreDone}
 use Rattle.load_maker.specs.Load.{load_script}
 use Rattle.load_maker.specs.Summary.{summary_text}
 use Rattle.schedule_play.specs.World.{EachAt}
 use Rattle.schedule_play.specs.Making.{AreBack, AreLarge, IsFirstSmall}
 use Rattle.schedule_play.specs.FirstForm.{has_fault}
+use Rattle.schedule_play.specs.Lone.{LoneJobsAreDone}
 use Rattle.schedule_play.specs.Headline.{Outcome as PlayOutcome, IsPlayOf, HasCauses, IsSerialPlay, KeepsParity, NamesLostRightly, report_of}
 use Rattle.array_cli.specs.declared.run.Outcome.{Outcome}
 use Rattle.array_cli.specs.declared.words.Command.{Command}
@@ -36,11 +38,15 @@ handed_out g outcome = record {
   stores = map g.content outcome.stores.items;
 }
 
--- The play of a script: what is handed out is the play's, and each result that gives a cause has it. For a script of the first
--- form whose stores have not failed it is serial, keeps the parity, and names lost blocks rightly
+-- The play of a script: what is handed out is the play's, and each result that gives a cause has it. Each read or write whose
+-- last attempt met no refusal is done, and where one host alone reads and writes and no bay has answered Fault each job that
+-- has parts is done at its first attempt. For a script of the first form whose stores have not failed the play is serial,
+-- keeps the parity, and names lost blocks rightly
 pub record IsPlayed (script : Script) (outcome : PlayOutcome) (history : List Call) : Type 0 where
   pub play : IsPlayOf script history outcome
   pub causes : HasCauses script history
+  pub unrefused : UnrefusedAreDone script history
+  pub alone : LoneJobsAreDone script history
   pub serial : IsFirstForm script → has_fault history ≡ false → IsSerialPlay script history
   pub parity : IsFirstForm script → has_fault history ≡ false → KeepsParity script history
   pub lost_blocks : IsFirstForm script → has_fault history ≡ false → NamesLostRightly script history

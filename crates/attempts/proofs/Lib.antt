@@ -33,3 +33,8 @@ pub mod WriteReturns
 pub mod WrittenReturns
 pub mod PartLemmas
 pub mod WholeLemmas
+pub mod OnceLemmas
+pub mod OnceClaims
+pub mod OnceReads
+pub mod OnceRepairs
+pub mod OnceWrites

@@ -1,13 +1,26 @@
 //! The errands of an attempt.
-ghost use Rattle.std.specs.Prelude.{◌≡◌, ◌++◌, ◌+◌, ◌≤◌, length};
+ghost use Rattle.std.specs.Prelude.{◌≡◌, ◌+◌, ◌≤◌, true, length};
 ghost use Rattle.arrayvec.specs.ArrayVec.{array_vec_len};
+ghost use Rattle.raid_base.specs.declared.messages.Request.TheVariants.{Share, Claim};
 ghost use Rattle.attempts.specs.Taking.{share, shares, claim, claims, confirm};
-ghost use Rattle.attempts.specs.Releases.{release, releases};
+ghost use Rattle.attempts.specs.Releases.{release};
 ghost use Rattle.attempts.specs.Puts.{put};
+ghost use Rattle.attempts.specs.Batches.{with_releases};
 
-use crate::queue::{Errands, Queue};
-use arrayvec::ArrayVec;
+use crate::queue::{Queue, Releases};
+use crate::units::Bays;
 use raid_base::{BayNo, Cell, Errand, How, Number, Request, RowNo};
+
+/// What a share asks, with the cell.
+fn share_request(id: Number, row: RowNo) -> Request
+    ensures { result ≡ Share row id true }
+{
+    Request::Share {
+        row,
+        id,
+        want: true,
+    }
+}
 
 /// A share of a slot with its cell.
 pub fn share(id: Number, row: RowNo, bay: BayNo) -> Errand
@@ -15,11 +28,20 @@ pub fn share(id: Number, row: RowNo, bay: BayNo) -> Errand
 {
     Errand {
         bay,
-        request: Request::Share {
-            row,
-            id,
-            want: true,
-        },
+        request: share_request(id, row),
+    }
+}
+
+/// What a claim asks.
+fn claim_request(id: Number, row: RowNo, how: How, mask: u16, want: bool) -> Request
+    ensures { result ≡ Claim row id how mask want }
+{
+    Request::Claim {
+        row,
+        id,
+        how,
+        mask,
+        want,
     }
 }
 
@@ -29,13 +51,7 @@ pub fn claim(id: Number, row: RowNo, how: How, mask: u16, want: bool, bay: BayNo
 {
     Errand {
         bay,
-        request: Request::Claim {
-            row,
-            id,
-            how,
-            mask,
-            want,
-        },
+        request: claim_request(id, row, how, mask, want),
     }
 }
 
@@ -75,42 +91,28 @@ pub fn release(id: Number, row: RowNo, number: Option<Number>, bay: BayNo) -> Er
 }
 
 /// Shares of the slots on these bays.
-pub fn shares(id: Number, row: RowNo, bays: &[BayNo]) -> Queue
-    requires { length bays.now ≤ 32 }
-    ensures { result ≡ shares id row bays.now }
+pub fn shares(id: Number, row: RowNo, bays: Bays) -> Queue
+    requires { array_vec_len bays ≤ 32 }
+    ensures { result ≡ shares id row bays.items }
 {
-    let mut errands = ArrayVec::new();
-    for bay in bays {
-        errands.push(share(id, row, *bay));
-    }
-    Queue::new(errands)
+    Queue::each(share_request(id, row), bays)
 }
 
 /// Claims of the slots on these bays.
-pub fn claims(id: Number, row: RowNo, how: How, want: bool, bays: &[BayNo]) -> Queue
-    requires { length bays.now ≤ 32 }
-    ensures { result ≡ claims id row how want bays.now }
+pub fn claims(id: Number, row: RowNo, how: How, want: bool, bays: Bays) -> Queue
+    requires { array_vec_len bays ≤ 32 }
+    ensures { result ≡ claims id row how want bays.items }
 {
-    let mut errands = ArrayVec::new();
-    for bay in bays {
-        errands.push(claim(id, row, how, 0, want, *bay));
-    }
-    Queue::new(errands)
+    Queue::each(claim_request(id, row, how, 0, want), bays)
 }
 
-/// Adds releases of what is held on these bays.
-pub fn push_releases(
-    errands: &mut Errands,
-    id: Number,
-    row: RowNo,
-    number: Option<Number>,
-    bays: &[BayNo],
-)
-    requires { array_vec_len errands.old + length bays.now ≤ 256 }
-    ensures items { errands.new.items ≡ errands.old.items ++ releases id row number bays.now }
-    ensures len { array_vec_len errands.new ≡ array_vec_len errands.old + length bays.now }
+/// Adds releases of what is held on these bays of a row.
+pub fn push_releases(releases: &mut Releases, row: RowNo, bays: &[BayNo])
+    requires { length releases.old.errands + length bays.now ≤ 256 }
+    ensures value { releases.new ≡ with_releases releases.old row bays.now }
+    ensures len { length releases.new.errands ≡ length releases.old.errands + length bays.now }
 {
     for bay in bays {
-        errands.push(release(id, row, number, *bay));
+        releases.push(row, *bay);
     }
 }

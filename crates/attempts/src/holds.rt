@@ -5,9 +5,10 @@ ghost use Rattle.stripe_layout.specs.Placement.{bays_of};
 ghost use Rattle.attempts.specs.Taking.{Row as RowView};
 ghost use Rattle.attempts.specs.Releases.{releases, wanted_granted, others_granted, parity_granted, all_granted, claims_granted, read_holds, write_holds};
 ghost use Rattle.attempts.specs.Reading.{row_readers};
+ghost use Rattle.attempts.specs.Batches.{with_releases};
 
 use crate::errands::push_releases;
-use crate::queue::Errands;
+use crate::queue::Releases;
 use crate::rows::Row;
 use crate::units::{Bays, Units, ascending, granted_of, units_in, units_out};
 use arrayvec::ArrayVec;
@@ -140,100 +141,102 @@ pub fn write_holds(mode: Mode, n: u8, row: &Row) -> Bays
 }
 
 /// Adds the releases of what a read holds of a row.
-pub fn push_read_row(errands: &mut Errands, mode: Mode, n: u8, id: Number, row: &Row)
+pub fn push_read_row(releases: &mut Releases, mode: Mode, n: u8, row: &Row)
     requires few { 3 ≤ n × (n ≤ 16) }
-    requires room { array_vec_len errands.old ≤ 240 }
-    ensures items { errands.new.items ≡ errands.old.items ++ releases id row.now.part.row None (read_holds mode n row.now) }
-    ensures len { array_vec_len errands.new ≤ array_vec_len errands.old + 16 }
+    requires room { length releases.old.errands ≤ 240 }
+    ensures value { releases.new ≡ with_releases releases.old row.now.part.row (read_holds mode n row.now) }
+    ensures len { length releases.new.errands ≤ length releases.old.errands + 16 }
 {
     let bays = read_holds(mode, n, row);
-    push_releases(errands, id, row.part().row, None, bays.as_slice());
+    push_releases(releases, row.part().row, bays.as_slice());
 }
 
 /// The releases of what a read holds of some rows.
-pub fn read_releases(mode: Mode, n: u8, id: Number, rows: &[Row]) -> Errands
+pub fn read_releases(mode: Mode, n: u8, id: Number, rows: &[Row]) -> Releases
     requires few { 3 ≤ n × (n ≤ 16) }
     requires rows { length rows.now ≤ 8 }
-    ensures value { result.items ≡ flat_map (λ (row : RowView). releases id row.part.row None (read_holds mode n row)) rows.now }
-    ensures few { array_vec_len result ≤ 16 * length rows.now }
+    ensures value { result ≡ record { id = id; number = None; errands = flat_map (λ (row : RowView). releases id row.part.row None (read_holds mode n row)) rows.now } }
+    ensures few { length result.errands ≤ 16 * length rows.now }
 {
-    let mut errands = ArrayVec::new();
+    let mut releases = Releases::new(id, None);
     for row in rows {
-        push_read_row(&mut errands, mode, n, id, row);
+        push_read_row(&mut releases, mode, n, row);
     }
-    errands
+    releases
 }
 
-/// Adds the releases of a row's readers, with the number of the read.
-fn push_numbered_row(errands: &mut Errands, n: u8, id: Number, number: Number, row: &Row)
+/// Adds the releases of a row's readers.
+fn push_readers(releases: &mut Releases, n: u8, row: &Row)
     requires few { 3 ≤ n × (n ≤ 16) }
-    requires room { array_vec_len errands.old ≤ 225 }
-    ensures items { errands.new.items ≡ errands.old.items ++ releases id row.now.part.row (Some number) (row_readers n row.now) }
-    ensures len { array_vec_len errands.new ≤ array_vec_len errands.old + 31 }
+    requires room { length releases.old.errands ≤ 225 }
+    ensures value { releases.new ≡ with_releases releases.old row.now.part.row (row_readers n row.now) }
+    ensures len { length releases.new.errands ≤ length releases.old.errands + 31 }
 {
     let bays = row_readers(n, row);
-    push_releases(errands, id, row.part().row, Some(number), bays.as_slice());
+    push_releases(releases, row.part().row, bays.as_slice());
 }
 
 /// The releases of the readers of some rows, with the number of the read.
-pub fn numbered_releases(n: u8, id: Number, number: Number, rows: &[Row]) -> Errands
+pub fn numbered_releases(n: u8, id: Number, number: Number, rows: &[Row]) -> Releases
     requires few { 3 ≤ n × (n ≤ 16) }
     requires rows { length rows.now ≤ 8 }
-    ensures value { result.items ≡ flat_map (λ (row : RowView). releases id row.part.row (Some number) (row_readers n row)) rows.now }
+    ensures value { result ≡ record { id = id; number = Some number; errands = flat_map (λ (row : RowView). releases id row.part.row (Some number) (row_readers n row)) rows.now } }
+    ensures few { length result.errands ≤ 31 * length rows.now }
 {
-    let mut errands = ArrayVec::new();
+    let mut releases = Releases::new(id, Some(number));
     for row in rows {
-        push_numbered_row(&mut errands, n, id, number, row);
+        push_readers(&mut releases, n, row);
     }
-    errands
+    releases
 }
 
 /// Adds the releases of what a write holds of a row.
-pub fn push_write_row(errands: &mut Errands, mode: Mode, n: u8, id: Number, row: &Row)
+pub fn push_write_row(releases: &mut Releases, mode: Mode, n: u8, row: &Row)
     requires few { 3 ≤ n × (n ≤ 16) }
-    requires room { array_vec_len errands.old ≤ 240 }
-    ensures items { errands.new.items ≡ errands.old.items ++ releases id row.now.part.row None (write_holds mode n row.now) }
-    ensures len { array_vec_len errands.new ≤ array_vec_len errands.old + 16 }
+    requires room { length releases.old.errands ≤ 240 }
+    ensures value { releases.new ≡ with_releases releases.old row.now.part.row (write_holds mode n row.now) }
+    ensures len { length releases.new.errands ≤ length releases.old.errands + 16 }
 {
     let bays = write_holds(mode, n, row);
-    push_releases(errands, id, row.part().row, None, bays.as_slice());
+    push_releases(releases, row.part().row, bays.as_slice());
 }
 
 /// The releases of what a write holds of some rows.
-pub fn write_releases(mode: Mode, n: u8, id: Number, rows: &[Row]) -> Errands
+pub fn write_releases(mode: Mode, n: u8, id: Number, rows: &[Row]) -> Releases
     requires few { 3 ≤ n × (n ≤ 16) }
     requires rows { length rows.now ≤ 8 }
-    ensures value { result.items ≡ flat_map (λ (row : RowView). releases id row.part.row None (write_holds mode n row)) rows.now }
-    ensures few { array_vec_len result ≤ 16 * length rows.now }
+    ensures value { result ≡ record { id = id; number = None; errands = flat_map (λ (row : RowView). releases id row.part.row None (write_holds mode n row)) rows.now } }
+    ensures few { length result.errands ≤ 16 * length rows.now }
 {
-    let mut errands = ArrayVec::new();
+    let mut releases = Releases::new(id, None);
     for row in rows {
-        push_write_row(&mut errands, mode, n, id, row);
+        push_write_row(&mut releases, mode, n, row);
     }
-    errands
+    releases
 }
 
-/// Adds the releases of a row's readers, without a number.
-fn push_reader_row(errands: &mut Errands, n: u8, id: Number, row: &Row)
+/// Adds the releases of a row's readers of other units than it wants.
+fn push_other_readers(releases: &mut Releases, n: u8, row: &Row)
     requires few { 3 ≤ n × (n ≤ 16) }
-    requires room { array_vec_len errands.old ≤ 240 }
-    ensures items { errands.new.items ≡ errands.old.items ++ releases id row.now.part.row None (bays_of n row.now.part.row (others_granted n row.now)) }
-    ensures len { array_vec_len errands.new ≤ array_vec_len errands.old + 16 }
+    requires room { length releases.old.errands ≤ 240 }
+    ensures value { releases.new ≡ with_releases releases.old row.now.part.row (bays_of n row.now.part.row (others_granted n row.now)) }
+    ensures len { length releases.new.errands ≤ length releases.old.errands + 16 }
 {
     let others = others_granted(n, row);
     let bays = bays_of(n, row.part().row, others.as_slice());
-    push_releases(errands, id, row.part().row, None, bays.as_slice());
+    push_releases(releases, row.part().row, bays.as_slice());
 }
 
 /// The releases of the readers of some rows, without a number: a write has readers of other units than it wants.
-pub fn reader_releases(n: u8, id: Number, rows: &[Row]) -> Errands
+pub fn reader_releases(n: u8, id: Number, rows: &[Row]) -> Releases
     requires few { 3 ≤ n × (n ≤ 16) }
     requires rows { length rows.now ≤ 8 }
-    ensures { result.items ≡ flat_map (λ (row : RowView). releases id row.part.row None (bays_of n row.part.row (others_granted n row))) rows.now }
+    ensures value { result ≡ record { id = id; number = None; errands = flat_map (λ (row : RowView). releases id row.part.row None (bays_of n row.part.row (others_granted n row))) rows.now } }
+    ensures few { length result.errands ≤ 16 * length rows.now }
 {
-    let mut errands = ArrayVec::new();
+    let mut releases = Releases::new(id, None);
     for row in rows {
-        push_reader_row(&mut errands, n, id, row);
+        push_other_readers(&mut releases, n, row);
     }
-    errands
+    releases
 }

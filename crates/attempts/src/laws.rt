@@ -6,6 +6,7 @@ ghost use Rattle.attempts.specs.Numbering.{SeenCovers, DrawsAreAbove};
 ghost use Rattle.attempts.specs.Finishes.{ReadsFinish, OthersFinish};
 ghost use Rattle.attempts.specs.Sound.{ReadsTell, WritesKeepRowsSound, MendsRestore, RecoveriesMakeSound};
 ghost use Rattle.attempts.specs.BayBounds.{ReadsObeyAt, WritesObeyAt, MendsObeyAt, RecoveriesObeyAt};
+ghost use Rattle.attempts.specs.Once.{AttemptsAskOnce, ClaimsAreOfTheirKind};
 
 /// Every read, whatever the replies and the numbers drawn, asks within the array, in all at most four times as often as
 /// it has rows times bays, gives no more contents than it has units, and does not end as a repair or a recovery does.
@@ -145,4 +146,16 @@ pub fn rebuilds_return()
 /// done has given back all.
 pub fn recoveries_return()
     ensures { RecoveriesReturn }
+{}
+
+/// Every attempt shares or claims each slot of a row once at most, whatever the replies and the numbers drawn: a read or a
+/// write of different rows, a rebuild and a recovery.
+pub fn attempts_ask_once()
+    ensures { AttemptsAskOnce }
+{}
+
+/// Every claim of an attempt is made in the way of its kind: a read or a write claims plainly, a rebuild to mend, and a
+/// recovery to seize. Only a write's claim of a row's parity has a mask.
+pub fn claims_are_of_their_kind()
+    ensures { ClaimsAreOfTheirKind }
 {}

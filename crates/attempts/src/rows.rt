@@ -5,7 +5,6 @@ ghost use Rattle.attempts.specs.Taking.{lacks};
 use arrayvec::ArrayVec;
 use raid_base::{BayNo, Grant, RowPart};
 use std::marker::Model;
-use std::mem;
 
 /// Slots of a row in order: None where one answered that it is missing.
 pub type Grants = ArrayVec<Option<Grant>, 16>;
@@ -48,6 +47,16 @@ impl Row {
             wanted: ArrayVec::new(),
             others: ArrayVec::new(),
         }
+    }
+
+    /// Begins a row of which nothing was asked yet, in the room of this one.
+    pub fn renew(&mut self, part: RowPart)
+        ensures { self.new ≡ fresh_row part }
+    {
+        self.part = part;
+        self.parity = None;
+        self.wanted.clear();
+        self.others.clear();
     }
 
     pub fn part(&self) -> RowPart
@@ -120,19 +129,25 @@ impl Row {
 }
 
 /// What was taken of the rows so far, with a row in hand, and the bay that was missing.
+///
+/// The rows before stand in front of the row in hand in one array, so that none is moved or made anew on the way.
 #[derive(Debug, Drop)]
 pub struct Taken {
-    before: ArrayVec<Row, 8>,
-    row: Row,
+    rows: [Row; 9],
+    at: usize,
     missing: Option<BayNo>,
 }
 
 impl Model for Taken {
+    ghost use Rattle.std.specs.Prelude.{◌≤◌, take};
     ghost use Rattle.attempts.specs.Taking.{Taken as TakenView};
+    ghost use Rattle.attempts.specs.Rows.{row_at};
 
     ghost Value = { TakenView };
 
-    ghost view = { λ t. record { before = t.before.items; row = t.row; missing = t.missing } };
+    ghost view = { λ t. record { before = take t.at t.rows; row = row_at t.rows t.at; missing = t.missing } };
+
+    ghost invariant = { λ t. t.at ≤ 8 };
 }
 
 impl Taken {
@@ -142,11 +157,31 @@ impl Taken {
     pub fn begin(part: RowPart) -> Taken
         ensures { result ≡ begun part no_rows }
     {
+        let rows = [
+            Row::new(part),
+            Row::default(),
+            Row::default(),
+            Row::default(),
+            Row::default(),
+            Row::default(),
+            Row::default(),
+            Row::default(),
+            Row::default(),
+        ];
         Taken {
-            before: ArrayVec::new(),
-            row: Row::new(part),
+            rows,
+            at: 0,
             missing: None,
         }
+    }
+
+    /// Begins with the first row of another attempt, in the room of this one.
+    pub fn renew(&mut self, part: RowPart)
+        ensures { self.new ≡ begun part no_rows }
+    {
+        self.at = 0;
+        self.missing = None;
+        self.rows[0].renew(part);
     }
 
     /// Puts the row in hand to those before, and takes the next in hand.
@@ -154,8 +189,8 @@ impl Taken {
         requires { length self.old.before < 8 }
         ensures { self.new ≡ begun part (row_ended self.old) }
     {
-        let row = mem::replace(&mut self.row, Row::new(part));
-        self.before.push(row);
+        self.at += 1;
+        self.rows[self.at].renew(part);
     }
 
     pub fn missing(&self) -> Option<BayNo>
@@ -167,13 +202,13 @@ impl Taken {
     pub fn row(&self) -> &Row
         ensures { result.now ≡ self.now.row }
     {
-        &self.row
+        &self.rows[self.at]
     }
 
     pub fn before(&self) -> &[Row]
         ensures { result.now ≡ self.now.before }
     {
-        self.before.as_slice()
+        &self.rows[..self.at]
     }
 
     /// Keeps what a reply gave of the parity.
@@ -184,7 +219,7 @@ impl Taken {
         ensures wanted { self.new.row.wanted ≡ self.old.row.wanted }
         ensures others { self.new.row.others ≡ self.old.row.others }
     {
-        self.row.keep_parity(grant);
+        self.rows[self.at].keep_parity(grant);
         match grant {
             Some(_) => {}
             None => self.missing = Some(bay),
@@ -201,7 +236,7 @@ impl Taken {
         ensures others { self.new.row.others ≡ self.old.row.others }
         ensures len { length self.new.row.wanted ≡ length self.old.row.wanted + 1 }
     {
-        self.row.keep_wanted(grant);
+        self.rows[self.at].keep_wanted(grant);
         match grant {
             Some(_) => {}
             None => self.missing = Some(bay),
@@ -218,7 +253,7 @@ impl Taken {
         ensures others { self.new.row.others ≡ self.old.row.others ++ grant ∷ [] }
         ensures len { length self.new.row.others ≡ length self.old.row.others + 1 }
     {
-        self.row.keep_other(grant);
+        self.rows[self.at].keep_other(grant);
         match grant {
             Some(_) => {}
             None => self.missing = Some(bay),

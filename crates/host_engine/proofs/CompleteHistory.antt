@@ -49,12 +49,12 @@ same-host : (a b : HostNo) → (a.0 == b.0) ≡ true → a ≡ b
 same-host a b e = let same : a.0 ≡ b.0 = grind (arith, nat_tests) in ap (λ (k : ℕ). record { 0 = k }) same
 
 -- what is left once numbers were drawn, or a reply was told
-settled-plain : (Q : Finish → Type 0) (host : HostNo) (seen : Number) (s : Steps Finish) → Plainly Q s → Plainly Q (settled host seen s).steps
+pub settled-plain : (Q : Finish → Type 0) (host : HostNo) (seen : Number) (s : Steps Finish) → Plainly Q s → Plainly Q (settled host seen s).steps
 settled-plain Q host seen (Asks e t c k) h = h
 settled-plain Q host seen (Draws k) h = settled-plain Q host (seen_drawn seen (draw host seen)) (k (draw host seen)) (h (draw host seen))
 settled-plain Q host seen (Ends f) h = h
 
-behind-plain : (Q : Finish → Type 0) (call : Call) (s : Steps Finish) → Plainly Q s → next_errand s ≡ Some (errand_of call) → fits call.ask.what call.answer.reply ≡ true
+pub behind-plain : (Q : Finish → Type 0) (call : Call) (s : Steps Finish) → Plainly Q s → next_errand s ≡ Some (errand_of call) → fits call.ask.what call.answer.reply ≡ true
     → is_refused call.answer.reply ≡ false → Plainly Q (behind s call.answer.reply)
 behind-plain Q call (Asks e t c k) h asked fit good =
     let same : e ≡ errand_of call = cc in
@@ -63,7 +63,7 @@ behind-plain Q call (Draws k) h asked fit good = cc
 behind-plain Q call (Ends f) h asked fit good = cc
 
 -- parts that are refused are none
-without-parts : (r : Result (List RowPart) PartsFault) (fault : PartsFault) → r ≡ Err fault → IsOk r → ⊥
+pub without-parts : (r : Result (List RowPart) PartsFault) (fault : PartsFault) → r ≡ Err fault → IsOk r → ⊥
 without-parts (Ok parts) fault is ok = cc
 without-parts (Err other) fault is ok = let bad : false ≡ true = ok in cc
 
@@ -91,7 +91,7 @@ module _ (script : Script) (host : HostNo) where
   write-plain id task done blocks (Ok parts) ok = writes_plain (IsDoneBy task) done (access script id parts blocks)
   write-plain id task done blocks (Err fault) ok = absurd (let bad : false ≡ true = ok in cc)
 
-  attempt-plain : (id : Number) (row : ℕ) (task : Task) → IsReadOrWrite task → IsOk (task_parts script task) → Plainly (Does (IsDoneBy task)) (attempt script host id row task)
+  pub attempt-plain : (id : Number) (row : ℕ) (task : Task) → IsReadOrWrite task → IsOk (task_parts script task) → Plainly (Does (IsDoneBy task)) (attempt script host id row task)
   attempt-plain id row (tasks.Read object first count) plain ok = read-plain id (tasks.Read object first count) (λ n. tt) (parts_of script object first count) ok
   attempt-plain id row (tasks.Write object first from count) plain ok =
       write-plain id (tasks.Write object first from count) (λ n. tt) (blocks_of script from count) (parts_of script object first count) ok

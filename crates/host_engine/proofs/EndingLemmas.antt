@@ -1,5 +1,5 @@
 -- The jobs of a host end in order, and each read with its contents.
-use Rattle.std.proofs.Common.{◌≡◌, ℕ, zero, suc, ◌+◌, ◌-◌, ◌≤◌, ◌==◌, ◌||◌, List, [], ◌∷◌, ◌++◌, length, take, drop, map, sum_by, Bool, true, false, Option, Some, None, Result, Ok, Err, refl, sym, ap, subst, ◌∙◌, arith, append-nil, append_assoc, length-append}
+use Rattle.std.proofs.Common.{◌≡◌, ℕ, ◌+◌, ◌-◌, ◌≤◌, List, [], ◌∷◌, ◌++◌, length, take, drop, map, sum_by, Bool, true, false, Option, Some, None, Result, Ok, Err, refl, sym, ap, subst, ◌∙◌, arith, append-nil, append_assoc}
 use Rattle.std.specs.List.{AllByRecursion}
 use Rattle.std.proofs.lemmas.List.{map-append, length-map}
 use Rattle.std.proofs.lemmas.List.Sums.{sum_by-cons}
@@ -42,7 +42,7 @@ use Rattle.host_engine.specs.declared.operator.Gone.{Gone}
 use Rattle.host_engine.specs.Operator.{is_gone}
 use Rattle.host_engine.specs.Plain.{task_count}
 use Rattle.host_engine.specs.Bounds.{IsAimed}
-use Rattle.host_engine.specs.Progress.{Ending, Work, Trying, Losing, Fitting, Over, Progress, endings_of, with_ending, next_job, access, attempt, read_of, write_of, placed, try_with, one_more, try_task, ends_as, parts_end, try_parts, lose_job, fit_job, rebuild_job, start_task, start_jobs, at_start, stops, go_on, job_ended, task_of, try_again, once_more, is_spent, attempt_refused, next_row, row_mended, attempt_ended, quit_end, asks_on, steps_left, stood, work_told, call_counted, takes}
+use Rattle.host_engine.specs.Progress.{Ending, Work, Trying, Losing, Fitting, Over, Progress, endings_of, with_ending, next_job, access, attempt, read_of, write_of, try_with, one_more, try_task, parts_end, try_parts, lose_job, fit_job, rebuild_job, start_task, start_jobs, stops, go_on, job_ended, task_of, try_again, once_more, attempt_refused, next_row, row_mended, attempt_ended, quit_end, asks_on, steps_left, work_told, call_counted}
 use Rattle.host_engine.specs.History.{if_taken, progress_at}
 use Rattle.host_engine.specs.Endings.{contents_due, IsFilled, AreEndings, EndingsAreFilled}
 use Rattle.host_engine.proofs.BoundsTakes.{before_start, script-aims}

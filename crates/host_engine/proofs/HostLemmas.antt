@@ -103,7 +103,7 @@ counts-idle script host old new p c number plays listed job asked tries row gone
 }
 
 steps-first : (script : Script) (jobs : List Job) (task : Task) (begun : Attempt) → FirstTask jobs task →
-    work_of script jobs (Some (duties.Trying begun)) ≡ Trying (left begun (task_blocks script task))
+    work_of script jobs begun (Some duties.Trying) ≡ Trying (left begun (task_blocks script task))
 steps-first script [] task begun first = elim first [ ]
 steps-first script (job ∷ jobs) task begun first = ap (λ (t : Task). Trying (left begun (task_blocks script t))) first
 
@@ -116,10 +116,10 @@ pub stands-tried : (script : Script) (host : HostNo) (old new : Host) (p : Progr
     Counts script host old p → FirstTask p.jobs task → draw old.numbers.host old.numbers.seen ≡ Ok id →
     (left begun (task_blocks old.script.now task) ≡ attempt old.script.now old.no id old.row task) → draws (left begun (task_blocks old.script.now task)) ≡ false → Suits begun (task_blocks old.script.now task) →
     new.no ≡ old.no → new.script.now ≡ old.script.now → new.jobs.now ≡ old.jobs.now → new.job ≡ old.job → new.asked ≡ old.asked → new.tries ≡ old.tries + 1 → new.row ≡ old.row → new.gone ≡ old.gone →
-    new.numbers.host ≡ old.numbers.host → new.numbers.seen ≡ id → new.clock ≡ old.clock → new.duty ≡ Some (duties.Trying begun) →
+    new.numbers.host ≡ old.numbers.host → new.numbers.seen ≡ id → new.clock ≡ old.clock → new.duty ≡ Some duties.Trying → new.attempt ≡ begun →
     new.results.items ≡ old.results.items → new.contents.items ≡ old.contents.items →
     Stands script host new (try_task script host task rest p)
-stands-tried script host old new p task id begun rest c first drawn begun_as still_as suited number same listed job asked tries row gone draws_for seen clock tried results read =
+stands-tried script host old new p task id begun rest c first drawn begun_as still_as suited number same listed job asked tries row gone draws_for seen clock tried held results read =
     let begins : left begun (task_blocks script task) ≡ attempt script host id p.row task =
     subst (λ (r : ℕ). left begun (task_blocks script task) ≡ attempt script host id r task) (sym c.row)
     (subst (λ (h : HostNo). left begun (task_blocks script task) ≡ attempt script h id old.row task) c.number
@@ -145,9 +145,10 @@ stands-tried script host old new p task id begun rest c first drawn begun_as sti
         results = results ∙ c.results;
         contents = read ∙ c.contents;
       };
-      work = sym (ap (work_of script p.jobs) tried ∙ steps-first script p.jobs task begun first);
-      suits = subst (λ (o : Option Duty). SuitsWork o (first_blocks script p.jobs)) (sym tried)
-          (suits-first script p.jobs task begun first (subst (λ (x : Script). Suits begun (task_blocks x task)) c.plays suited));
+      work = sym (ap (λ (a : Attempt). work_of script p.jobs a new.duty) held ∙ ap (work_of script p.jobs begun) tried ∙ steps-first script p.jobs task begun first);
+      suits = subst (λ (a : Attempt). SuitsWork new.duty a (first_blocks script p.jobs)) (sym held)
+          (subst (λ (o : Option Duty). SuitsWork o begun (first_blocks script p.jobs)) (sym tried)
+          (suits-first script p.jobs task begun first (subst (λ (x : Script). Suits begun (task_blocks x task)) c.plays suited)));
     })
 
 -- an attempt is counted, and no number was left for its id
@@ -248,8 +249,8 @@ pub losing-stands : (script : Script) (host : HostNo) (new : Host) (p : Progress
 losing-stands script host new p bay rest c none begun =
     subst (λ (g : Option Gone). Stands script host new (lose_job rest p bay g)) (sym none) (record {
       counts = record { number = c.number; plays = c.plays; listed = c.listed; place = c.place; jobs = c.jobs; asked = c.asked; tries = c.tries; row = c.row; gone = c.gone; draws = c.draws; seen = c.seen; clock = c.clock; results = c.results; contents = c.contents };
-      work = sym (ap (work_of script p.jobs) begun);
-      suits = subst (λ (o : Option Duty). SuitsWork o (first_blocks script p.jobs)) (sym begun) tt;
+      work = sym (ap (work_of script p.jobs new.attempt) begun);
+      suits = subst (λ (o : Option Duty). SuitsWork o new.attempt (first_blocks script p.jobs)) (sym begun) tt;
     })
 
 pub still-missing : (p : Progress) (bay : BayNo) (gone : Gone) (rest : Progress → Progress) → p.gone ≡ Some gone →
@@ -267,8 +268,8 @@ pub fitting-stands : (script : Script) (host : HostNo) (new : Host) (p : Progres
 fitting-stands script host new p bay rest c lost begun =
     subst (λ (b : Bool). Stands script host new (fit_job rest p bay b)) (sym lost) (record {
       counts = record { number = c.number; plays = c.plays; listed = c.listed; place = c.place; jobs = c.jobs; asked = c.asked; tries = c.tries; row = c.row; gone = c.gone; draws = c.draws; seen = c.seen; clock = c.clock; results = c.results; contents = c.contents };
-      work = sym (ap (work_of script p.jobs) begun);
-      suits = subst (λ (o : Option Duty). SuitsWork o (first_blocks script p.jobs)) (sym begun) tt;
+      work = sym (ap (work_of script p.jobs new.attempt) begun);
+      suits = subst (λ (o : Option Duty). SuitsWork o new.attempt (first_blocks script p.jobs)) (sym begun) tt;
     })
 
 pub not-lost : (p : Progress) (bay : BayNo) (rest : Progress → Progress) → is_gone bay false p.gone ≡ false →
@@ -350,8 +351,8 @@ start-over script host new p c none past =
     let over : p.jobs ≡ [] = c.jobs ∙ drop_all new.job (jobs_of script host) (rw (← c.listed) past) in
     rw over (record {
       counts = record { number = c.number; plays = c.plays; listed = c.listed; place = c.place; jobs = sym over ∙ c.jobs; asked = c.asked; tries = c.tries; row = c.row; gone = c.gone; draws = c.draws; seen = c.seen; clock = c.clock; results = c.results; contents = c.contents };
-      work = sym (ap (work_of script []) none);
-      suits = subst (λ (o : Option Duty). SuitsWork o (first_blocks script [])) (sym none) tt;
+      work = sym (ap (work_of script [] new.attempt) none);
+      suits = subst (λ (o : Option Duty). SuitsWork o new.attempt (first_blocks script [])) (sym none) tt;
     })
 
 -- a further attempt was begun
@@ -384,8 +385,8 @@ again-spent script host k p new task first left next b =
 pub stopped-stands : (script : Script) (host : HostNo) (new : Host) (q : Progress) → Counts script host new q → new.duty ≡ None → Stands script host new (record q { work = Over })
 stopped-stands script host new q c none = record {
   counts = record { number = c.number; plays = c.plays; listed = c.listed; place = c.place; jobs = c.jobs; asked = c.asked; tries = c.tries; row = c.row; gone = c.gone; draws = c.draws; seen = c.seen; clock = c.clock; results = c.results; contents = c.contents };
-  work = sym (ap (work_of script q.jobs) none);
-  suits = subst (λ (o : Option Duty). SuitsWork o (first_blocks script q.jobs)) (sym none) tt;
+  work = sym (ap (work_of script q.jobs new.attempt) none);
+  suits = subst (λ (o : Option Duty). SuitsWork o new.attempt (first_blocks script q.jobs)) (sym none) tt;
 }
 
 -- the last request that the job in hand may make was answered

@@ -25,3 +25,6 @@ pub mod CompleteWalks
 pub mod CompleteReads
 pub mod CompleteWrites
 pub mod CompleteHistory
+pub mod Attempting
+pub mod PhasedHands
+pub mod HandSteps

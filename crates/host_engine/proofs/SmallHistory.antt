@@ -114,7 +114,7 @@ call-small most call less asked replied = record {
 }
 
 -- A host of a script is below 16, and another one has no jobs
-few-or-idle : (from : ℕ) (host : HostNo) (hosts : List HostJobs) → Rise from (map (λ (h : HostJobs). h.host) hosts) →
+pub few-or-idle : (from : ℕ) (host : HostNo) (hosts : List HostJobs) → Rise from (map (λ (h : HostJobs). h.host) hosts) →
     (host.0 < 16) ⊎ (jobs_in (find (λ (h : HostJobs). h.host.0 == host.0) hosts) ≡ [])
 few-or-idle from host [] rise = inr refl
 few-or-idle from host (first ∷ hosts) rise = by (first.host.0 == host.0) refl (few-or-idle (first.host.0 + 1) host hosts rise.2)
@@ -140,7 +140,7 @@ module _ (script : Script) (host : HostNo) where
       (record { work = idle.work; seen = idle.seen; endings = idle.endings })
   idle-takes p call false idle = idle
 
-  idle-history : (history : List Call) → jobs_of script host ≡ [] → Idle (progress_at script host history)
+  pub idle-history : (history : List Call) → jobs_of script host ≡ [] → Idle (progress_at script host history)
   idle-history [] none = idle-start (jobs_of script host) none
   idle-history (call ∷ earlier) none = idle-takes (progress_at script host earlier) call (call.ask.host.0 == host.0) (idle-history earlier none)
 
@@ -151,7 +151,7 @@ idle-small most p idle = record {
 }
 
 module _ (script : Script) (is : IsScript script) where
-  are-asked : (history : List Call) → IsHistory script history → AreAsked script history
+  pub are-asked : (history : List Call) → IsHistory script history → AreAsked script history
   are-asked [] h = tt
   are-asked (call ∷ earlier) h = (are-asked earlier h.0, record { asked = (h.1).asked; clocked = ap (λ (c : Call). c.answer.clock) (h.1).replied })
 

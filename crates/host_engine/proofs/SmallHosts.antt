@@ -58,7 +58,7 @@ pub record IsNear (host : HostNo) (seen : Number) : Type 0 where
   pub near : next.0 ≤ seen.0 + 16
   pub more : seen.0 ≤ next.0
 
-draws-near : (host : HostNo) (seen : Number) → host.0 < 16 → seen.0 + 16 < 2 ^ 62 → IsNear host seen
+pub draws-near : (host : HostNo) (seen : Number) → host.0 < 16 → seen.0 + 16 < 2 ^ 62 → IsNear host seen
 draws-near host seen few room =
     let m : ℕ = least_above host.0 seen.0 in
     let near : m ≤ seen.0 + 16 = least-near host.0 seen.0 (nat_lt (seen.0 % 16) host.0) refl few in
@@ -142,7 +142,7 @@ sees-low most seen Fault le low = le
 sees-low most seen Emptied le low = le
 sees-low most seen Fitted le low = le
 
-sees-more : (seen : Number) (r : Reply) → seen.0 ≤ (sees seen r).0
+pub sees-more : (seen : Number) (r : Reply) → seen.0 ≤ (sees seen r).0
 sees-more seen (Granted cell read_no write_no last life seized) = by seized
   where
     by : (note : Option Note) → seen.0 ≤ (sees_note (greater seen (greater read_no write_no)) note).0

@@ -28,7 +28,7 @@ use Rattle.host_engine.specs.declared.attempt.Attempt.{Attempt}
 use Rattle.host_engine.specs.declared.duty.Duty.{Duty}
 use Rattle.host_engine.specs.declared.duty.Duty.TheVariants as duties
 use Rattle.host_engine.specs.declared.host.Host.{Host}
-use Rattle.host_engine.specs.Stands.{Counts, Stands, KeepsRoom, Told, IsAsking, Quits, IsNoted, CanHear, CanTake, Takes, IsSentBy, sent_pair, contents_of, work_of}
+use Rattle.host_engine.specs.Stands.{Counts, Stands, KeepsRoom, Told, IsTrying, IsAsking, Quits, IsNoted, CanHear, CanTake, Takes, IsSentBy, sent_pair, contents_of, work_of}
 use Rattle.script_text.specs.Script.{Script, jobs_of}
 use Rattle.host_engine.specs.Progress.{Progress, Ending, Work, Trying, Losing, Fitting, Over, steps_left, asks_on, attempt_ended, job_ended, stops, quit_end, with_ending, next_job, work_told, call_counted, asks, sent_by, work_errand, Sent}
 use Rattle.host_engine.specs.Plain.{FitsNext, FirstTried, first_blocks, contents_in}
@@ -111,7 +111,6 @@ pub record Advanced (script : Script) (host : HostNo) (mid : Host) (p : Progress
   pub p2 : Progress
   pub before : Steps Finish
   pub steps : Steps Finish
-  pub now : Attempt
   pub worked : p.work ≡ Trying before
   pub told_is : steps ≡ (told host (record { seen = p.seen; steps = before }) reply).steps
   pub same_endings : p2.endings ≡ p.endings
@@ -119,9 +118,9 @@ pub record Advanced (script : Script) (host : HostNo) (mid : Host) (p : Progress
   pub counts : Counts script host mid p2
   pub same_jobs : p2.jobs ≡ p.jobs
   pub still : draws steps ≡ false
-  pub in_hand : mid.duty ≡ Some (duties.Trying now)
-  pub left_is : steps ≡ left now (first_blocks script p2.jobs)
-  pub suits : Suits now (first_blocks script p2.jobs)
+  pub in_hand : mid.duty ≡ Some duties.Trying
+  pub left_is : steps ≡ left mid.attempt (first_blocks script p2.jobs)
+  pub suits : Suits mid.attempt (first_blocks script p2.jobs)
 
 pub blocks-same : (script : Script) (host : HostNo) (now mid : Host) (p : Progress) → Counts script host now p → mid.script ≡ now.script → mid.jobs ≡ now.jobs → mid.job ≡ now.job →
     first_blocks mid.script.now (drop mid.job mid.jobs.now) ≡ first_blocks script p.jobs
@@ -137,19 +136,18 @@ advances script host old mid p reply ended s t =
     let c = s.counts in
     let bs = first_blocks script p.jobs in
     let blocks : first_blocks old.script.now (drop old.job old.jobs.now) ≡ bs = blocks-same script host old old p c refl refl refl in
-    let work : p.work ≡ Trying (left t.was bs) = s.work ∙ ap (work_of script p.jobs) t.in_hand in
+    let work : p.work ≡ Trying (left old.attempt bs) = s.work ∙ ap (work_of script p.jobs old.attempt) t.in_hand in
     let seen_is : old.numbers.seen ≡ p.seen = sym c.seen in
-    let here : Standing Finish = told host (record { seen = p.seen; steps = left t.was bs }) reply in
-    let steps : record { seen = mid.numbers.seen; steps = left t.now bs } ≡ here =
-    ap (λ (x : List (List ℕ)). record { seen = mid.numbers.seen; steps = left t.now x }) (sym blocks) ∙ t.steps
-    ∙ ap (λ (x : List (List ℕ)). told old.numbers.host (record { seen = old.numbers.seen; steps = left t.was x }) reply) blocks
-    ∙ ap (λ (x : Number). told old.numbers.host (record { seen = x; steps = left t.was bs }) reply) seen_is
-    ∙ ap (λ (h : HostNo). told h (record { seen = p.seen; steps = left t.was bs }) reply) c.draws in
+    let here : Standing Finish = told host (record { seen = p.seen; steps = left old.attempt bs }) reply in
+    let steps : record { seen = mid.numbers.seen; steps = left mid.attempt bs } ≡ here =
+    ap (λ (x : List (List ℕ)). record { seen = mid.numbers.seen; steps = left mid.attempt x }) (sym blocks) ∙ t.steps
+    ∙ ap (λ (x : List (List ℕ)). told old.numbers.host (record { seen = old.numbers.seen; steps = left old.attempt x }) reply) blocks
+    ∙ ap (λ (x : Number). told old.numbers.host (record { seen = x; steps = left old.attempt bs }) reply) seen_is
+    ∙ ap (λ (h : HostNo). told h (record { seen = p.seen; steps = left old.attempt bs }) reply) c.draws in
     record {
       p2 = record p { seen = here.seen };
-      before = left t.was bs;
+      before = left old.attempt bs;
       steps = here.steps;
-      now = t.now;
       worked = work;
       told_is = refl;
       same_endings = refl;
@@ -171,18 +169,18 @@ advances script host old mid p reply ended s t =
         contents = ap (λ (v : _). v.items) t.contents ∙ c.contents;
       };
       same_jobs = refl;
-      still = draws-settled host (sees p.seen reply) (behind (left t.was bs) reply);
+      still = draws-settled host (sees p.seen reply) (behind (left old.attempt bs) reply);
       in_hand = t.still_in_hand;
       left_is = ap (λ (x : Standing Finish). x.steps) (sym steps);
-      suits = subst (λ (x : List (List ℕ)). Suits t.now x) blocks t.suits;
+      suits = subst (λ (x : List (List ℕ)). Suits mid.attempt x) blocks t.suits;
     }
 
 -- an attempt that has not ended has no answer
 pub open-left : (script : Script) (host : HostNo) (mid : Host) (p : Progress) (reply : Reply) (a : Advanced script host mid p reply) →
-    ((blocks : List (List ℕ)) → None ≡ option_map (λ (f : Finish). f.ended) (answer (left a.now blocks))) → answer a.steps ≡ None
+    ((blocks : List (List ℕ)) → None ≡ option_map (λ (f : Finish). f.ended) (answer (left mid.attempt blocks))) → answer a.steps ≡ None
 open-left script host mid p reply a ends =
     let bs = first_blocks script a.p2.jobs in
-    ap answer a.left_is ∙ no-answer (answer (left a.now bs)) (ends bs)
+    ap answer a.left_is ∙ no-answer (answer (left mid.attempt bs)) (ends bs)
   where
     no-answer : (o : Option Finish) → None ≡ option_map (λ (f : Finish). f.ended) o → o ≡ None
     no-answer None e = refl
@@ -190,34 +188,34 @@ open-left script host mid p reply a ends =
 
 -- the attempt goes on
 pub stands-on : (script : Script) (host : HostNo) (mid : Host) (p : Progress) (reply : Reply) (a : Advanced script host mid p reply) →
-    stops a.p2 ≡ false → ((blocks : List (List ℕ)) → None ≡ option_map (λ (f : Finish). f.ended) (answer (left a.now blocks))) →
+    stops a.p2 ≡ false → ((blocks : List (List ℕ)) → None ≡ option_map (λ (f : Finish). f.ended) (answer (left mid.attempt blocks))) →
     Stands script host mid (work_told script host p reply p.work)
 stands-on script host mid p reply a goes ends =
     let go = a.takes_it ∙ steps-go script host a.p2 a.steps goes a.still (open-left script host mid p reply a ends) in
     subst (λ (q : Progress). Stands script host mid q) (sym go) (record {
       counts = record { number = a.counts.number; plays = a.counts.plays; listed = a.counts.listed; place = a.counts.place; jobs = a.counts.jobs; asked = a.counts.asked; tries = a.counts.tries; row = a.counts.row; gone = a.counts.gone; draws = a.counts.draws; seen = a.counts.seen; clock = a.counts.clock; results = a.counts.results; contents = a.counts.contents };
-      work = ap Trying a.left_is ∙ sym (ap (work_of script a.p2.jobs) a.in_hand);
-      suits = subst (λ (o : Option Duty). SuitsWork o (first_blocks script a.p2.jobs)) (sym a.in_hand) a.suits;
+      work = ap Trying a.left_is ∙ sym (ap (work_of script a.p2.jobs mid.attempt) a.in_hand);
+      suits = subst (λ (o : Option Duty). SuitsWork o mid.attempt (first_blocks script a.p2.jobs)) (sym a.in_hand) a.suits;
     })
 
 -- or the host stops with it in hand
 pub stands-quit : (script : Script) (host : HostNo) (mid last : Host) (p : Progress) (reply : Reply) (a : Advanced script host mid p reply) →
-    stops a.p2 ≡ true → ((blocks : List (List ℕ)) → None ≡ option_map (λ (f : Finish). f.ended) (answer (left a.now blocks))) → Quits script host mid last a.p2 →
+    stops a.p2 ≡ true → ((blocks : List (List ℕ)) → None ≡ option_map (λ (f : Finish). f.ended) (answer (left mid.attempt blocks))) → Quits script host mid last a.p2 →
     Stands script host last (work_told script host p reply p.work)
 stands-quit script host mid last p reply a quits ends q =
     let bs = first_blocks script a.p2.jobs in
     let stop = stop-some a.steps a.still (open-left script host mid p reply a ends) in
     subst (λ (r : Progress). Stands script host last r) (sym (a.takes_it ∙ steps-quit script host a.p2 a.steps stop.0 quits stop.1))
-    (q a.now bs stop.0 a.in_hand (ap stopped (sym a.left_is) ∙ stop.1))
+    (q bs stop.0 (ap stopped (sym a.left_is) ∙ stop.1))
 
 -- or it has ended
 pub ends-as : (script : Script) (host : HostNo) (mid : Host) (p : Progress) (reply : Reply) (a : Advanced script host mid p reply) (ended : Ended) (read : List Content) →
-    ((blocks : List (List ℕ)) → Some ended ≡ option_map (λ (f : Finish). f.ended) (answer (left a.now blocks))) →
-    ((blocks : List (List ℕ)) → read ≡ contents_in (answer (left a.now blocks))) →
+    ((blocks : List (List ℕ)) → Some ended ≡ option_map (λ (f : Finish). f.ended) (answer (left mid.attempt blocks))) →
+    ((blocks : List (List ℕ)) → read ≡ contents_in (answer (left mid.attempt blocks))) →
     work_told script host p reply p.work ≡ attempt_ended script host a.p2 read ended
 ends-as script host mid p reply a ended read ends reads =
     let bs = first_blocks script a.p2.jobs in
-    a.takes_it ∙ go (answer (left a.now bs)) (ap answer a.left_is) (ends bs) (reads bs)
+    a.takes_it ∙ go (answer (left mid.attempt bs)) (ap answer a.left_is) (ends bs) (reads bs)
   where
     go : (o : Option Finish) → answer a.steps ≡ o → Some ended ≡ option_map (λ (f : Finish). f.ended) o → read ≡ contents_in o →
         steps_left script host a.p2 a.steps ≡ attempt_ended script host a.p2 read ended
@@ -229,12 +227,12 @@ ends-as script host mid p reply a ended read ends reads =
 
 -- what a host asks, read off its code
 pub sent-is : (script : Script) (host : HostNo) (now : Host) (p : Progress) (moment : ℕ) → Stands script host now p →
-    asks host p moment ≡ sent_by now.no now.clock moment (work_errand (work_of now.script.now (drop now.job now.jobs.now) now.duty))
+    asks host p moment ≡ sent_by now.no now.clock moment (work_errand (work_of now.script.now (drop now.job now.jobs.now) now.attempt now.duty))
 sent-is script host now p moment s =
     let c = s.counts in
     let jobs : p.jobs ≡ drop now.job now.jobs.now = c.jobs ∙ ap (drop now.job) (sym c.listed) in
-    let work : p.work ≡ work_of now.script.now (drop now.job now.jobs.now) now.duty =
-    s.work ∙ ap (λ (js : List Job). work_of script js now.duty) jobs ∙ ap (λ (x : Script). work_of x (drop now.job now.jobs.now) now.duty) (sym c.plays) in
+    let work : p.work ≡ work_of now.script.now (drop now.job now.jobs.now) now.attempt now.duty =
+    s.work ∙ ap (λ (js : List Job). work_of script js now.attempt now.duty) jobs ∙ ap (λ (x : Script). work_of x (drop now.job now.jobs.now) now.attempt now.duty) (sym c.plays) in
     ap (λ (h : HostNo). sent_by h p.clock moment (work_errand p.work)) (sym c.number)
     ∙ ap (λ (k : ℕ). sent_by now.no k moment (work_errand p.work)) c.clock
     ∙ ap (λ (w : Work). sent_by now.no now.clock moment (work_errand w)) work
@@ -323,6 +321,24 @@ call-of now moment given r bay ask sent n is =
     let pair : (bay, ask) ≡ (s.0.bay, s.0.ask) = cc s.2 in
     (ap (λ (x : BayNo × Ask). x.0) pair ∙ ap (λ (x : Sent). x.bay) same, ap (λ (x : BayNo × Ask). x.1) pair ∙ ap (λ (x : Sent). x.ask) same)
 
+-- what was handed out is what the host has sent
+pub sent-of : (now : Host) (moment : ℕ) (given : Answer) (r : CanTake now moment given) (bay : BayNo) (ask : Ask) →
+    ((script : Script) (host : HostNo) (p : Progress) → Stands script host now p → Some (bay, ask) ≡ sent_pair (asks host p moment)) →
+    IsSentBy now moment (record { bay = bay; ask = ask })
+sent-of now moment given r bay ask n =
+    let s = next-some now moment given r (Some (bay, ask)) n in
+    let same = call-of now moment given r bay ask s.0 n s.1 in
+    let is : s.0 ≡ record { bay = bay; ask = ask } =
+    ap (λ (b : BayNo). record { bay = b; ask = s.0.ask }) (sym same.0) ∙ ap (λ (a : Ask). record { bay = bay; ask = a }) (sym same.1) in
+    subst (IsSentBy now moment) is s.1
+
+-- and it has sent no other
+pub same-sent : (now : Host) (moment : ℕ) (bay : BayNo) (ask : Ask) (sent : Sent) → IsSentBy now moment (record { bay = bay; ask = ask }) → IsSentBy now moment sent →
+    (bay ≡ sent.bay) × (ask ≡ sent.ask)
+same-sent now moment bay ask sent given is =
+    let same : record { bay = bay; ask = ask } ≡ sent = sent-once now moment (record { bay = bay; ask = ask }) sent given is in
+    (ap (λ (s : Sent). s.bay) same, ap (λ (s : Sent). s.ask) same)
+
 pub noted-call : (before after : List Call) (given : Answer) (bay : BayNo) (ask : Ask) (sent : Sent) →
     after ≡ before ++ record { bay = bay; ask = ask; answer = given } ∷ [] → (bay ≡ sent.bay) × (ask ≡ sent.ask) →
     after ≡ before ++ record { bay = sent.bay; ask = sent.ask; answer = given } ∷ []
@@ -352,8 +368,9 @@ stands-noted script host old mid p call s n =
         results = ap (λ (v : _). v.items) n.results ∙ c.results;
         contents = ap (λ (v : _). v.items) n.contents ∙ c.contents;
       };
-      work = s.work ∙ ap (work_of script p.jobs) (sym n.duty);
-      suits = subst (λ (o : Option Duty). SuitsWork o (first_blocks script p.jobs)) (sym n.duty) s.suits;
+      work = s.work ∙ ap (work_of script p.jobs old.attempt) (sym n.duty) ∙ ap (λ (a : Attempt). work_of script p.jobs a mid.duty) (sym n.attempt);
+      suits = subst (λ (a : Attempt). SuitsWork mid.duty a (first_blocks script p.jobs)) (sym n.attempt)
+          (subst (λ (o : Option Duty). SuitsWork o old.attempt (first_blocks script p.jobs)) (sym n.duty) s.suits);
     }
 
 -- it may be told the reply
@@ -401,18 +418,14 @@ within-at script host mid p requests contents reply a end read keeps fits room (
 
 pub end-within : (old mid : Host) (reply : Reply) (r : CanHear old reply) (result : Option Ended) (ended : Ended) (read : List Content) →
     (t : Told old mid reply result) → result ≡ Some ended →
-    ((blocks : List (List ℕ)) → read ≡ contents_in (answer (left t.now blocks))) →
+    ((blocks : List (List ℕ)) → read ≡ contents_in (answer (left mid.attempt blocks))) →
     vec_len mid.contents + length read ≤ vec_capacity mid.contents
 unfolding advances
 end-within old mid reply r result ended read t some reads =
     let a = advances r.script r.host old mid r.p reply result r.stands t in
     let bs = first_blocks r.script r.p.jobs in
     within-at r.script r.host mid r.p r.requests r.contents reply a ended read r.keeps r.asked
-    (let same = ap vec_capacity t.contents in omega (arith, same, r.reads)) (answer (left t.now bs)) (ap answer a.left_is) (sym some ∙ t.ends bs) (reads bs)
-
--- the attempt that was in hand
-pub in-hand : (taken before : Option Duty) (a b : Attempt) → taken ≡ Some (duties.Trying a) → taken ≡ before → before ≡ Some (duties.Trying b) → a ≡ b
-in-hand taken before a b x y z = cc
+    (let same = ap vec_capacity t.contents in omega (arith, same, r.reads)) (answer (left mid.attempt bs)) (ap answer a.left_is) (sym some ∙ t.ends bs) (reads bs)
 
 -- what code needs to know of the job in hand
 pub record Needs (now : Host) : Type 0 where
@@ -443,17 +456,26 @@ pub hear-needs : (now : Host) (reply : Reply) → CanHear now reply → Needs no
 hear-needs now reply r =
     needs-of r.script r.host now r.p r.stands.counts (some-within r.script r.host r.p r.requests r.contents reply r.keeps r.asked).0 r.keeps.tries r.keeps.row
 
-pub hear-asked : (now : Host) (reply : Reply) → CanHear now reply → FitsNext (work_errand (work_of now.script.now (drop now.job now.jobs.now) now.duty)) reply
+pub hear-asked : (now : Host) (reply : Reply) → CanHear now reply → FitsNext (work_errand (work_of now.script.now (drop now.job now.jobs.now) now.attempt now.duty)) reply
 hear-asked now reply r =
     let c = r.stands.counts in
     let jobs : r.p.jobs ≡ drop now.job now.jobs.now = c.jobs ∙ ap (drop now.job) (sym c.listed) in
-    let work : r.p.work ≡ work_of now.script.now (drop now.job now.jobs.now) now.duty =
-    r.stands.work ∙ ap (λ (js : List Job). work_of r.script js now.duty) jobs ∙ ap (λ (x : Script). work_of x (drop now.job now.jobs.now) now.duty) (sym c.plays) in
+    let work : r.p.work ≡ work_of now.script.now (drop now.job now.jobs.now) now.attempt now.duty =
+    r.stands.work ∙ ap (λ (js : List Job). work_of r.script js now.attempt now.duty) jobs ∙ ap (λ (x : Script). work_of x (drop now.job now.jobs.now) now.attempt now.duty) (sym c.plays) in
     subst (λ (w : Work). FitsNext (work_errand w) reply) work r.asked
 
-pub hear-suits : (now : Host) (reply : Reply) → CanHear now reply → SuitsWork now.duty (first_blocks now.script.now (drop now.job now.jobs.now))
+pub hear-suits : (now : Host) (reply : Reply) → CanHear now reply → SuitsWork now.duty now.attempt (first_blocks now.script.now (drop now.job now.jobs.now))
 hear-suits now reply r =
-    subst (λ (bs : List (List ℕ)). SuitsWork now.duty bs) (sym (blocks-same r.script r.host now now r.p r.stands.counts refl refl refl)) r.stands.suits
+    subst (λ (bs : List (List ℕ)). SuitsWork now.duty now.attempt bs) (sym (blocks-same r.script r.host now now r.p r.stands.counts refl refl refl)) r.stands.suits
+
+-- one that has an attempt in hand
+pub trying-asked : (now : Host) (reply : Reply) → CanHear now reply → IsTrying now → FitsNext (next_errand (left now.attempt (first_blocks now.script.now (drop now.job now.jobs.now)))) reply
+trying-asked now reply r t =
+    subst (λ (o : Option Duty). FitsNext (work_errand (work_of now.script.now (drop now.job now.jobs.now) now.attempt o)) reply) t (hear-asked now reply r)
+
+pub trying-suits : (now : Host) (reply : Reply) → CanHear now reply → IsTrying now → Suits now.attempt (first_blocks now.script.now (drop now.job now.jobs.now))
+trying-suits now reply r t =
+    subst (λ (o : Option Duty). SuitsWork o now.attempt (first_blocks now.script.now (drop now.job now.jobs.now))) t (hear-suits now reply r)
 
 -- one whose attempt has ended
 pub end-needs : (old mid : Host) (reply : Reply) (r : CanHear old reply) (result : Option Ended) (t : Told old mid reply result) →
@@ -465,8 +487,8 @@ end-needs old mid reply r result t =
     (needs-of r.script r.host mid a.p2 a.counts first.0 r.keeps.tries r.keeps.row, tried-of r.script r.host mid a.p2 a.counts first.1)
 
 -- the attempt in hand goes on
-pub open-asking : (mid : Host) (t : Attempt) → mid.duty ≡ Some (duties.Trying t) → ((blocks : List (List ℕ)) → None ≡ option_map (λ (f : Finish). f.ended) (answer (left t blocks))) → IsAsking mid
-open-asking mid t in_hand ends = (t, in_hand, λ blocks. by (answer (left t blocks)) (ends blocks))
+pub open-asking : (mid : Host) → mid.duty ≡ Some duties.Trying → ((blocks : List (List ℕ)) → None ≡ option_map (λ (f : Finish). f.ended) (answer (left mid.attempt blocks))) → IsAsking mid
+open-asking mid in_hand ends = (in_hand, λ blocks. by (answer (left mid.attempt blocks)) (ends blocks))
   where
     by : (o : Option Finish) → None ≡ option_map (λ (f : Finish). f.ended) o → o ≡ None
     by None e = refl
@@ -484,12 +506,11 @@ pub open-ends : (t : Attempt) (result : Option Ended) → result ≡ None → ((
 open-ends t result none ends blocks = sym none ∙ ends blocks
 
 -- where the host stops its job ends as its attempt does
-pub quits-as : (script : Script) (host : HostNo) (last : Host) (p : Progress) (t held : Attempt) (blocks : List (List ℕ)) (stop given : Ended) (tries : ℕ) (says : JobEnd) →
-    Some (duties.Trying held) ≡ Some (duties.Trying t) → Some given ≡ stopped (left held blocks) → stopped (left t blocks) ≡ Some stop → says ≡ quit_end tries given → p.tries ≡ tries →
+pub quits-as : (script : Script) (host : HostNo) (last : Host) (p : Progress) (t : Attempt) (blocks : List (List ℕ)) (stop given : Ended) (tries : ℕ) (says : JobEnd) →
+    Some given ≡ stopped (left t blocks) → stopped (left t blocks) ≡ Some stop → says ≡ quit_end tries given → p.tries ≡ tries →
     Counts script host last (next_job (with_ending p says [])) → last.duty ≡ None → Stands script host last (record (next_job (with_ending p (quit_end p.tries stop) [])) { work = Over })
-quits-as script host last p t held blocks stop given tries says same is_given is_stop is_end counted c none =
-    let one : held ≡ t = cc in
-    let stops_so : Some given ≡ Some stop = is_given ∙ ap (λ (a : Attempt). stopped (left a blocks)) one ∙ is_stop in
+quits-as script host last p t blocks stop given tries says is_given is_stop is_end counted c none =
+    let stops_so : Some given ≡ Some stop = is_given ∙ is_stop in
     let gives : given ≡ stop = cc in
     let is : says ≡ quit_end p.tries stop = is_end ∙ ap (quit_end tries) gives ∙ ap (λ (k : ℕ). quit_end k stop) (sym counted) in
     subst (λ (e : JobEnd). Stands script host last (record (next_job (with_ending p e [])) { work = Over })) is
@@ -499,9 +520,9 @@ quits-as script host last p t held blocks stop given tries says same is_given is
 pub loses-as : (script : Script) (host : HostNo) (mid last : Host) (p : Progress) (reply : Reply) (bay : BayNo) → Stands script host mid p → mid.duty ≡ Some (duties.Losing bay) →
     Stands script host last (job_ended script host (record p { gone = Some (record { bay = bay; fitted = false }) }) job_ends.Lost []) → Stands script host last (work_told script host p reply p.work)
 loses-as script host mid last p reply bay s is e =
-    subst (λ (w : Work). Stands script host last (work_told script host p reply w)) (sym (s.work ∙ ap (work_of script p.jobs) is)) e
+    subst (λ (w : Work). Stands script host last (work_told script host p reply w)) (sym (s.work ∙ ap (work_of script p.jobs mid.attempt) is)) e
 
 pub fits-as : (script : Script) (host : HostNo) (mid last : Host) (p : Progress) (reply : Reply) (bay : BayNo) → Stands script host mid p → mid.duty ≡ Some (duties.Fitting bay) →
     Stands script host last (job_ended script host (record p { gone = Some (record { bay = bay; fitted = true }) }) job_ends.Fitted []) → Stands script host last (work_told script host p reply p.work)
 fits-as script host mid last p reply bay s is e =
-    subst (λ (w : Work). Stands script host last (work_told script host p reply w)) (sym (s.work ∙ ap (work_of script p.jobs) is)) e
+    subst (λ (w : Work). Stands script host last (work_told script host p reply w)) (sym (s.work ∙ ap (work_of script p.jobs mid.attempt) is)) e

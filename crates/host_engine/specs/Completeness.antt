@@ -36,9 +36,14 @@ IsDoneBy (tasks.Read object first count) ended = IsReadDone ended
 IsDoneBy (tasks.Write object first from count) ended = IsWriteDone ended
 IsDoneBy _ ended = Unit {0}
 
--- A read or a write that has parts, and whose host is not to stop in it, is done where its last attempt met no refusal.
+-- a read or a write that has parts, and whose host is not to stop in it, is done where its last attempt met no refusal
+abbrev pub IsDoneUnrefused : Script → Ending → Type 0
+IsDoneUnrefused script e = IsReadOrWrite e.job.task → e.job.quit ≡ None → IsOk (task_parts script e.job.task) → AreUnrefused e.calls → IsDoneBy e.job.task e.ended
+
+-- each that has ended is so
+abbrev pub UnrefusedAreDone : Script → List Call → Type 0
+UnrefusedAreDone script history = (host : HostNo) → AllByRecursion (IsDoneUnrefused script) (endings_at script history host)
+
+-- So it is in every history.
 abbrev pub UnrefusedJobsAreDone : Type 0
-UnrefusedJobsAreDone = (script : Script) (history : List Call) → IsScript script → total script ≤ 2 ^ 20 → IsHistory script history → (host : HostNo) →
-    AllByRecursion
-    (λ (e : Ending). IsReadOrWrite e.job.task → e.job.quit ≡ None → IsOk (task_parts script e.job.task) → AreUnrefused e.calls → IsDoneBy e.job.task e.ended)
-    (endings_at script history host)
+UnrefusedJobsAreDone = (script : Script) (history : List Call) → IsScript script → total script ≤ 2 ^ 20 → IsHistory script history → UnrefusedAreDone script history

@@ -16,3 +16,4 @@ pub mod Endings
 pub mod Ready
 pub mod Smallness
 pub mod Completeness
+pub mod Hands

@@ -35,9 +35,9 @@ abbrev pub contents_of : List Ending → List Content
 contents_of endings = flat_map (λ (e : Ending). e.contents) endings
 
 -- what is in hand
-abbrev pub work_of : Script → List Job → Option Duty → Work
-work_of script jobs None = Over
-work_of script jobs (Some duty) = work_in duty (first_blocks script jobs)
+abbrev pub work_of : Script → List Job → Attempt → Option Duty → Work
+work_of script jobs attempt None = Over
+work_of script jobs attempt (Some duty) = work_in duty attempt (first_blocks script jobs)
 
 -- all but what is in hand
 pub record Counts (script : Script) (host : HostNo) (now : Host) (p : Progress) : Type 0 where
@@ -58,8 +58,8 @@ pub record Counts (script : Script) (host : HostNo) (now : Host) (p : Progress) 
 
 pub record Stands (script : Script) (host : HostNo) (now : Host) (p : Progress) : Type 0 where
   pub counts : Counts script host now p
-  pub work : p.work ≡ work_of script p.jobs now.duty
-  pub suits : SuitsWork now.duty (first_blocks script p.jobs)
+  pub work : p.work ≡ work_of script p.jobs now.attempt now.duty
+  pub suits : SuitsWork now.duty now.attempt (first_blocks script p.jobs)
 
 -- what stays when a job is begun or ended without a request
 pub record KeepsRoom (old new : Host) : Type 0 where
@@ -128,31 +128,29 @@ pub record Takes (old new : Host) (moment : ℕ) (answer : Answer) (sent : Sent)
 
 -- the request that a host has to make comes from what it has in hand
 abbrev pub IsSentBy : Host → ℕ → Sent → Type 0
-IsSentBy now moment sent = sent_by now.no now.clock moment (work_errand (work_of now.script.now (drop now.job now.jobs.now) now.duty)) ≡ Some sent
+IsSentBy now moment sent = sent_by now.no now.clock moment (work_errand (work_of now.script.now (drop now.job now.jobs.now) now.attempt now.duty)) ≡ Some sent
 
 -- it has an attempt in hand
 abbrev pub IsTrying : Host → Type 0
-IsTrying now = (attempt : Attempt) × (now.duty ≡ Some (duties.Trying attempt))
+IsTrying now = now.duty ≡ Some duties.Trying
 
 -- one that has not ended
 abbrev pub IsAsking : Host → Type 0
-IsAsking now = (attempt : Attempt) × (now.duty ≡ Some (duties.Trying attempt)) × ((blocks : List (List ℕ)) → answer (left attempt blocks) ≡ None)
+IsAsking now = (now.duty ≡ Some duties.Trying) × ((blocks : List (List ℕ)) → answer (left now.attempt blocks) ≡ None)
 
 -- it has stopped with that in hand
 abbrev pub Quits : Script → HostNo → Host → Host → Progress → Type 0
-Quits script host old new p = (attempt : Attempt) (blocks : List (List ℕ)) (stop : Ended) → old.duty ≡ Some (duties.Trying attempt) →
-    stopped (left attempt blocks) ≡ Some stop → Stands script host new (record (next_job (with_ending p (quit_end p.tries stop) [])) { work = Over })
+Quits script host old new p = (blocks : List (List ℕ)) (stop : Ended) →
+    stopped (left old.attempt blocks) ≡ Some stop → Stands script host new (record (next_job (with_ending p (quit_end p.tries stop) [])) { work = Over })
 
 -- the attempt in hand was told a reply
 pub record Told (old new : Host) (reply : Reply) (ended : Option Ended) : Type 0 where
-  pub was : Attempt
-  pub now : Attempt
-  pub in_hand : old.duty ≡ Some (duties.Trying was)
-  pub still_in_hand : new.duty ≡ Some (duties.Trying now)
-  pub steps : record { seen = new.numbers.seen; steps = left now (first_blocks old.script.now (drop old.job old.jobs.now)) }
-      ≡ told old.numbers.host (record { seen = old.numbers.seen; steps = left was (first_blocks old.script.now (drop old.job old.jobs.now)) }) reply
-  pub suits : Suits now (first_blocks old.script.now (drop old.job old.jobs.now))
-  pub ends : (blocks : List (List ℕ)) → ended ≡ option_map (λ (f : Finish). f.ended) (answer (left now blocks))
+  pub in_hand : old.duty ≡ Some duties.Trying
+  pub still_in_hand : new.duty ≡ Some duties.Trying
+  pub steps : record { seen = new.numbers.seen; steps = left new.attempt (first_blocks old.script.now (drop old.job old.jobs.now)) }
+      ≡ told old.numbers.host (record { seen = old.numbers.seen; steps = left old.attempt (first_blocks old.script.now (drop old.job old.jobs.now)) }) reply
+  pub suits : Suits new.attempt (first_blocks old.script.now (drop old.job old.jobs.now))
+  pub ends : (blocks : List (List ℕ)) → ended ≡ option_map (λ (f : Finish). f.ended) (answer (left new.attempt blocks))
   pub draws_for : new.numbers.host ≡ old.numbers.host
   pub number : new.no ≡ old.no
   pub plays : new.script ≡ old.script
@@ -179,6 +177,7 @@ pub record IsNoted (old mid : Host) (clock : ℕ) : Type 0 where
   pub gone : mid.gone ≡ old.gone
   pub numbers : mid.numbers ≡ old.numbers
   pub duty : mid.duty ≡ old.duty
+  pub attempt : mid.attempt ≡ old.attempt
   pub results : mid.results ≡ old.results
   pub contents : mid.contents ≡ old.contents
   pub clock_is : mid.clock ≡ clock

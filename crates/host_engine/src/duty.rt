@@ -4,10 +4,10 @@ ghost use Rattle.std.specs.Prelude.{◌≡◌};
 use crate::attempt::Attempt;
 use raid_base::{BayNo, Errand, Request};
 
-/// An attempt, or a request that is a job of its own.
-#[derive(Debug, Drop)]
+/// The attempt of a host, or a request that is a job of its own.
+#[derive(Clone, Copy, Debug, PartialEq)]
 pub enum Duty {
-    Trying(Attempt),
+    Trying,
     Losing(BayNo),
     Fitting(BayNo),
 }
@@ -16,12 +16,12 @@ impl Duty {
     ghost use Rattle.host_engine.specs.Progress.{work_errand};
     ghost use Rattle.host_engine.specs.Left.{work_in};
 
-    /// The next request, and none where an attempt has ended.
-    pub fn next(&self, blocks: &[[u8; 64]]) -> Option<Errand>
-        ensures { result ≡ work_errand (work_in self.now blocks.now) }
+    /// The next request, and none where the attempt has ended.
+    pub fn next(&self, attempt: &Attempt, blocks: &[[u8; 64]]) -> Option<Errand>
+        ensures { result ≡ work_errand (work_in self.now attempt.now blocks.now) }
     {
         match self {
-            Duty::Trying(attempt) => attempt.next(blocks),
+            Duty::Trying => attempt.next(blocks),
             Duty::Losing(bay) => Some(Errand {
                 bay: *bay,
                 request: Request::Lose,

@@ -5,7 +5,7 @@ ghost use Rattle.host_engine.specs.Progress.{parts_end, is_spent, quit_end};
 ghost use Rattle.host_engine.specs.Plain.{first_blocks, are_sized, are_held, are_aimed};
 ghost use Rattle.std.specs.Vec.{vec_len, vec_capacity};
 
-use crate::attempt::Attempt;
+use crate::attempt::{Attempt, Kept};
 use crate::duty::Duty;
 use crate::lookup;
 use crate::operator::Gone;
@@ -32,6 +32,7 @@ pub struct Host<'s> {
     numbers: Numbers,
     clock: u64,
     duty: Option<Duty>,
+    attempt: Attempt,
     results: Vec<JobResult>,
     contents: Vec<Content>,
     transcript: Vec<Call>,
@@ -129,20 +130,22 @@ fn first_blocks<'s>(script: &'s Script, jobs: &[Job]) -> &'s [[u8; 64]]
 }
 
 impl<'s> Host<'s> {
-    ghost use Rattle.std.specs.Prelude.{false, IfOk, [], ◌∷◌, ◌++◌, None, drop};
+    ghost use Rattle.std.specs.Prelude.{if◌then◌else◌, false, IfOk, [], ◌∷◌, ◌++◌, None, drop};
     ghost use Rattle.script_text.specs.Script.{Script, jobs_of};
     ghost use Rattle.raid_base.specs.declared.numbers.HostNo.{HostNo};
     ghost use Rattle.raid_base.specs.declared.jobs.JobEnd.{JobEnd};
     ghost use Rattle.raid_base.specs.declared.jobs.Task.TheVariants.{Rebuild};
     ghost use Rattle.host_engine.specs.Plain.{IsTried, FirstTried, is_sized_task, is_held_task, is_plain_task, task_parts};
-    ghost use Rattle.host_engine.specs.Progress.{Progress, with_ending, next_job, try_task, try_parts, lose_job, fit_job, rebuild_job, start_jobs, attempt_refused, row_mended, try_again, stops, task_of, asks, job_ended, attempt_ended, work_told, Sent};
+    ghost use Rattle.host_engine.specs.Progress.{Progress, with_ending, next_job, try_task, try_parts, lose_job, fit_job, rebuild_job, start_jobs, attempt_refused, row_mended, try_again, stops, task_of, asks, job_ended, attempt_ended, work_told, is_over, Sent};
+    ghost use Rattle.host_engine.specs.Left.{contents_kept};
+    ghost use Rattle.host_engine.specs.declared.attempt.Kept.TheVariants.{Contents};
     ghost use Rattle.host_engine.specs.Stands.{Counts, Stands, KeepsRoom, Skips, Begins, BeginsFirst, FirstTask, sent_pair, Told, IsTrying, IsAsking, Quits, IsNoted, CanHear, CanTake, Takes, IsSentBy, IsFreshHost};
 
-    /// The job in hand has ended so, and the next one is in hand.
-    fn finish_job(&mut self, end: JobEnd, read: &[Content])
+    /// The job in hand has ended so and keeps this of its attempt, and the next one is in hand.
+    fn finish_job(&mut self, end: JobEnd, kept: Kept)
         requires job { self.old.job < length self.old.jobs.now }
-        requires room { vec_len self.old.contents + length read.now ≤ vec_capacity self.old.contents }
-        ensures counts { (script : Script) (host : HostNo) (p : Progress) → Counts script host self.old p → Counts script host self.new (next_job (with_ending p end read.now)) }
+        requires room { vec_len self.old.contents + length (contents_kept kept self.old.attempt) ≤ vec_capacity self.old.contents }
+        ensures counts { (script : Script) (host : HostNo) (p : Progress) → Counts script host self.old p → Counts script host self.new (next_job (with_ending p end (contents_kept kept self.old.attempt))) }
         ensures job { Skips false self.old self.new }
         ensures room { KeepsRoom self.old self.new }
     {
@@ -151,7 +154,7 @@ impl<'s> Host<'s> {
             job: self.job,
             end,
         });
-        match self.contents.extend_from_slice(read) {
+        match self.contents.extend_from_slice(self.attempt.kept(kept)) {
             Ok(()) => {}
             Err(_) => unreachable!(),
         }
@@ -175,8 +178,9 @@ impl<'s> Host<'s> {
         self.tries += 1;
         match self.numbers.draw() {
             Ok(id) => {
-                let attempt = Attempt::begin(self.script, self.no, id, RowNo(self.row), task);
-                self.duty = Some(Duty::Trying(attempt));
+                self.attempt
+                    .begin(self.script, self.no, id, RowNo(self.row), task);
+                self.duty = Some(Duty::Trying);
                 true
             }
             Err(spent) => {
@@ -185,7 +189,7 @@ impl<'s> Host<'s> {
                         tries: self.tries,
                         cause: Cause::Spent { seen: spent.seen },
                     },
-                    &[],
+                    Kept::Nothing,
                 );
                 false
             }
@@ -206,7 +210,7 @@ impl<'s> Host<'s> {
         match task_parts(self.script, task) {
             Ok(_) => self.try_task(task),
             Err(fault) => {
-                self.finish_job(parts_end(fault), &[]);
+                self.finish_job(parts_end(fault), Kept::Nothing);
                 false
             }
         }
@@ -225,7 +229,7 @@ impl<'s> Host<'s> {
                 true
             }
             Some(gone) => {
-                self.finish_job(JobEnd::StillMissing { bay: gone.bay }, &[]);
+                self.finish_job(JobEnd::StillMissing { bay: gone.bay }, Kept::Nothing);
                 false
             }
         }
@@ -242,7 +246,7 @@ impl<'s> Host<'s> {
             self.duty = Some(Duty::Fitting(bay));
             true
         } else {
-            self.finish_job(JobEnd::NotLost { bay }, &[]);
+            self.finish_job(JobEnd::NotLost { bay }, Kept::Nothing);
             false
         }
     }
@@ -259,7 +263,7 @@ impl<'s> Host<'s> {
         if is_gone(bay, true, self.gone) {
             self.try_task(&Task::Rebuild { bay })
         } else {
-            self.finish_job(JobEnd::NotFitted { bay }, &[]);
+            self.finish_job(JobEnd::NotFitted { bay }, Kept::Nothing);
             false
         }
     }
@@ -298,6 +302,16 @@ impl<'s> Host<'s> {
         }
     }
 
+    /// The host's number, and none once it has ended.
+    pub fn waiting(&self) -> Option<HostNo>
+        ensures { (script : Script) (host : HostNo) (p : Progress) → Stands script host self.now p → result ≡ (if is_over p.work then None else Some host) }
+    {
+        match self.duty {
+            Some(_) => Some(self.no),
+            None => None,
+        }
+    }
+
     /// The next request at this moment, and none where the host has ended.
     pub fn next(&self, moment: u64) -> Option<(BayNo, Ask)>
         ensures { (script : Script) (host : HostNo) (p : Progress) → Stands script host self.now p → result ≡ sent_pair (asks host p moment) }
@@ -306,7 +320,8 @@ impl<'s> Host<'s> {
             Some(duty) => duty,
             None => return None,
         };
-        match duty.next(first_blocks(self.script, &self.jobs[self.job as usize..])) {
+        let blocks = first_blocks(self.script, &self.jobs[self.job as usize..]);
+        match duty.next(&self.attempt, blocks) {
             Some(errand) => Some((
                 errand.bay,
                 Ask {
@@ -331,16 +346,16 @@ impl<'s> Host<'s> {
         }
     }
 
-    /// The job in hand has ended so, and the host goes on, unless it stops.
-    fn close(&mut self, end: JobEnd, read: &[Content])
+    /// The job in hand has ended so and keeps this of its attempt, and the host goes on, unless it stops.
+    fn close(&mut self, end: JobEnd, kept: Kept)
         requires job { self.old.job < length self.old.jobs.now }
         requires idle { self.old.duty ≡ None }
-        requires room { vec_len self.old.contents + length read.now ≤ vec_capacity self.old.contents }
-        ensures stands { (script : Script) (host : HostNo) (p : Progress) → Counts script host self.old p → Stands script host self.new (job_ended script host p end read.now) }
+        requires room { vec_len self.old.contents + length (contents_kept kept self.old.attempt) ≤ vec_capacity self.old.contents }
+        ensures stands { (script : Script) (host : HostNo) (p : Progress) → Counts script host self.old p → Stands script host self.new (job_ended script host p end (contents_kept kept self.old.attempt)) }
         ensures room { KeepsRoom self.old self.new }
     {
         let stops = self.stops();
-        self.finish_job(end, read);
+        self.finish_job(end, kept);
         if !stops {
             self.start();
         }
@@ -372,10 +387,10 @@ impl<'s> Host<'s> {
     {
         let tries = self.tries;
         if gives_up(tries, lookup::tries(self.script), cause) {
-            self.close(JobEnd::Gave { tries, cause }, &[]);
+            self.close(JobEnd::Gave { tries, cause }, Kept::Nothing);
         } else if self.stops() {
             let cause = Cause::Quit;
-            self.close(JobEnd::Gave { tries, cause }, &[]);
+            self.close(JobEnd::Gave { tries, cause }, Kept::Nothing);
         } else {
             self.try_again();
         }
@@ -393,11 +408,11 @@ impl<'s> Host<'s> {
         let rows = lookup::rows(self.script);
         if self.row + 1 == rows {
             self.gone = None;
-            self.close(JobEnd::Rebuilt, &[]);
+            self.close(JobEnd::Rebuilt, Kept::Nothing);
         } else if self.stops() {
             let tries = self.tries;
             let cause = Cause::Quit;
-            self.close(JobEnd::Gave { tries, cause }, &[]);
+            self.close(JobEnd::Gave { tries, cause }, Kept::Nothing);
         } else {
             self.row += 1;
             self.tries = 0; // each row has its own tries
@@ -406,19 +421,19 @@ impl<'s> Host<'s> {
     }
 
     /// The attempt in hand has ended so.
-    fn finish(&mut self, ended: Ended, read: &[Content])
+    fn finish(&mut self, ended: Ended)
         requires job { self.old.job < length self.old.jobs.now }
         requires tries { self.old.tries ≤ self.old.script.now.tries }
         requires row { self.old.row < self.old.script.now.rows }
         requires idle { self.old.duty ≡ None }
-        requires room { vec_len self.old.contents + length read.now ≤ vec_capacity self.old.contents }
+        requires room { vec_len self.old.contents + length (contents_kept Contents self.old.attempt) ≤ vec_capacity self.old.contents }
         requires tried { FirstTried self.old.script.now (drop self.old.job self.old.jobs.now) }
-        ensures stands { (script : Script) (host : HostNo) (p : Progress) → Counts script host self.old p → Stands script host self.new (attempt_ended script host p read.now ended) }
+        ensures stands { (script : Script) (host : HostNo) (p : Progress) → Counts script host self.old p → Stands script host self.new (attempt_ended script host p (contents_kept Contents self.old.attempt) ended) }
         ensures room { KeepsRoom self.old self.new }
     {
         match ended {
-            Ended::Read { number } => self.close(JobEnd::Read { number }, read),
-            Ended::Wrote { number } => self.close(JobEnd::Wrote { number }, &[]),
+            Ended::Read { number } => self.close(JobEnd::Read { number }, Kept::Contents),
+            Ended::Wrote { number } => self.close(JobEnd::Wrote { number }, Kept::Nothing),
             Ended::Part {
                 number,
                 made,
@@ -429,7 +444,7 @@ impl<'s> Host<'s> {
                     made,
                     cause,
                 },
-                &[],
+                Kept::Nothing,
             ),
             Ended::Recovered {
                 number,
@@ -441,7 +456,7 @@ impl<'s> Host<'s> {
                     closed,
                     lost,
                 },
-                &[],
+                Kept::Nothing,
             ),
             Ended::Mended => self.mended(),
             Ended::Refused(cause) => self.refused(cause),
@@ -455,15 +470,8 @@ impl<'s> Host<'s> {
         ensures told { Told self.old self.new reply.now result }
     {
         let blocks = first_blocks(self.script, &self.jobs[self.job as usize..]);
-        match &mut self.duty {
-            Some(Duty::Trying(attempt)) => {
-                attempt.take(blocks, reply, &mut self.numbers);
-                attempt.end()
-            }
-            Some(Duty::Losing(_)) => unreachable!(),
-            Some(Duty::Fitting(_)) => unreachable!(),
-            None => unreachable!(),
-        }
+        self.attempt.take(blocks, reply, &mut self.numbers);
+        self.attempt.end()
     }
 
     /// The host stops while the attempt in hand goes on: the job ends as that does.
@@ -474,15 +482,9 @@ impl<'s> Host<'s> {
         ensures stands { (script : Script) (host : HostNo) (p : Progress) → Counts script host self.old p → Quits script host self.old self.new p }
         ensures room { KeepsRoom self.old self.new }
     {
-        match self.duty.take() {
-            Some(Duty::Trying(attempt)) => {
-                let end = quit_end(self.tries, attempt.quit());
-                self.finish_job(end, &[]);
-            }
-            Some(Duty::Losing(_)) => unreachable!(),
-            Some(Duty::Fitting(_)) => unreachable!(),
-            None => unreachable!(),
-        }
+        let end = quit_end(self.tries, self.attempt.quit());
+        self.duty = None;
+        self.finish_job(end, Kept::Nothing);
     }
 
     /// Takes the reply to the next request of the attempt in hand.
@@ -493,12 +495,10 @@ impl<'s> Host<'s> {
         ensures room { KeepsRoom self.old self.new }
     {
         match self.hear(reply) {
-            Some(ended) => match self.duty.take() {
-                Some(Duty::Trying(attempt)) => self.finish(ended, attempt.contents()),
-                Some(Duty::Losing(_)) => unreachable!(),
-                Some(Duty::Fitting(_)) => unreachable!(),
-                None => unreachable!(),
-            },
+            Some(ended) => {
+                self.duty = None;
+                self.finish(ended);
+            }
             None => {
                 if self.stops() {
                     self.quit();
@@ -516,7 +516,7 @@ impl<'s> Host<'s> {
     {
         self.gone = Some(gone);
         self.duty = None;
-        self.close(end, &[]);
+        self.close(end, Kept::Nothing);
     }
 
     /// Counts a call.
@@ -531,41 +531,43 @@ impl<'s> Host<'s> {
         self.asked += 1;
     }
 
-    /// Takes the answer to the request that comes next at this moment.
-    pub fn take(&mut self, moment: u64, answer: &Answer)
+    /// Takes the answer to this ask, which the host has handed out at this moment for this bay.
+    pub fn heard(&mut self, moment: u64, bay: BayNo, ask: &Ask, answer: &Answer)
         requires ready { CanTake self.old moment answer.now }
+        requires sent { IsSentBy self.old moment (record { bay = bay; ask = ask.now }) }
         ensures { (sent : Sent) → IsSentBy self.old moment sent → Takes self.old self.new moment answer.now sent }
     {
-        let (bay, ask) = match self.next(moment) {
-            Some(sent) => sent,
-            None => unreachable!(),
-        };
         self.note(Call {
             bay,
-            ask,
+            ask: *ask,
             answer: *answer,
         });
-        match &self.duty {
-            Some(Duty::Trying(_)) => self.tell(&answer.reply),
+        match self.duty {
+            Some(Duty::Trying) => self.tell(&answer.reply),
             Some(Duty::Losing(bay)) => {
-                let gone = Gone {
-                    bay: *bay,
-                    fitted: false,
-                };
+                let gone = Gone { bay, fitted: false };
                 self.change(gone, JobEnd::Lost);
             }
             Some(Duty::Fitting(bay)) => {
-                let gone = Gone {
-                    bay: *bay,
-                    fitted: true,
-                };
+                let gone = Gone { bay, fitted: true };
                 self.change(gone, JobEnd::Fitted);
             }
             None => unreachable!(),
         }
     }
 
-    /// A host at its first request. All memory for its results, contents and calls is taken here.
+    /// Takes the answer to the request that comes next at this moment.
+    pub fn take(&mut self, moment: u64, answer: &Answer)
+        requires ready { CanTake self.old moment answer.now }
+        ensures { (sent : Sent) → IsSentBy self.old moment sent → Takes self.old self.new moment answer.now sent }
+    {
+        match self.next(moment) {
+            Some((bay, ask)) => self.heard(moment, bay, &ask, answer),
+            None => unreachable!(),
+        }
+    }
+
+    /// A host at its first request. All memory for its attempts, results, contents and calls is taken here.
     pub fn make(alloc: Global, no: HostNo, script: &'s Script) -> Result<Host<'s>, NoMemory>
         requires host { no.0 < 16 }
         requires few { length (jobs_of script.now no) < 2 ^ 32 }
@@ -587,6 +589,7 @@ impl<'s> Host<'s> {
             numbers: Numbers::new(no),
             clock: 0,
             duty: None,
+            attempt: Attempt::new(alloc)?,
             results: with_room(alloc, jobs.len())?,
             contents: with_room(alloc, contents_in(jobs))?,
             transcript: with_room(alloc, requests_in(script, jobs))?,

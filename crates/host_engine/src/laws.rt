@@ -4,6 +4,7 @@ ghost use Rattle.host_engine.specs.Endings.{EndingsAreFilled};
 ghost use Rattle.host_engine.specs.Quotas.{RequestsKeepQuotas, TotalsCoverRequests};
 ghost use Rattle.host_engine.specs.Smallness.{NumbersStaySmall};
 ghost use Rattle.host_engine.specs.Completeness.{UnrefusedJobsAreDone};
+ghost use Rattle.host_engine.specs.Hands.{HandsHoldAttempts, HandsKeepPhases};
 
 /// Along every history of a script each host has requests enough for what it has left to do: only hosts of the script
 /// ask, each at most as often as all allowed attempts of its jobs together, and no clock is above the number of calls.
@@ -45,4 +46,16 @@ pub fn numbers_stay_small()
 /// stop in it, is done where its last attempt met no refusal.
 pub fn unrefused_jobs_are_done()
     ensures { UnrefusedJobsAreDone }
+{}
+
+/// After every call of a history what a host has in hand is what is left of an attempt of its job, with an id of its own,
+/// after the calls of that attempt and their replies.
+pub fn hands_hold_attempts()
+    ensures { HandsHoldAttempts }
+{}
+
+/// And it keeps the phases of its kind: what it may ask next goes by what its calls have claimed, were granted, have
+/// confirmed and have put.
+pub fn hands_keep_phases()
+    ensures { HandsKeepPhases }
 {}

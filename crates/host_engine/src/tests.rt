@@ -110,10 +110,11 @@ fn reads_the_first_block(rt: HostRuntime) -> Result<(), Fail> {
         first: 0,
         count: 1,
     };
-    let mut read = match task_parts(&script, &task) {
-        Ok(_) => Attempt::begin(&script, HostNo(1), Number(17), RowNo(0), &task),
+    let mut read = Attempt::new(rt.alloc())?;
+    match task_parts(&script, &task) {
+        Ok(_) => read.begin(&script, HostNo(1), Number(17), RowNo(0), &task),
         Err(_) => return Err("no parts")?,
-    };
+    }
     let share = Request::Share {
         row: RowNo(0),
         id: Number(17),

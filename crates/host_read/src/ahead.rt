@@ -31,7 +31,7 @@ pub fn wanted_shares(job: &Assignment, part: RowPart) -> Queue
 {
     let units = units_in(job.n, part.mask);
     let bays = bays_of(job.n, part.row, units.as_slice());
-    shares(job.id, part.row, bays.as_slice())
+    shares(job.id, part.row, bays)
 }
 
 /// The shares of the other units of its row.
@@ -41,7 +41,7 @@ fn other_shares(job: &Assignment, part: RowPart) -> Queue
 {
     let units = units_out(job.n, part.mask);
     let bays = bays_of(job.n, part.row, units.as_slice());
-    shares(job.id, part.row, bays.as_slice())
+    shares(job.id, part.row, bays)
 }
 
 /// The end of the shares: under stamps the read ends here, and under locks it draws.
@@ -147,11 +147,11 @@ pub fn refused(job: &Assignment, taken: &Taken, cause: Cause) -> Ahead
     ensures kept { is_kept result.stage (array_vec_len job.now.parts) (length result.queue) taken.now ≡ true }
     ensures awake { is_settled result.stage ≡ true }
 {
-    let mut errands = read_releases(job.mode, job.n, job.id, taken.before());
-    push_read_row(&mut errands, job.mode, job.n, job.id, taken.row());
+    let mut releases = read_releases(job.mode, job.n, job.id, taken.before());
+    push_read_row(&mut releases, job.mode, job.n, taken.row());
     Ahead {
         stage: ReadStage::Releasing { cause },
-        queue: Queue::new(errands),
+        queue: Queue::releases(releases),
     }
 }
 
@@ -167,13 +167,13 @@ pub fn drawn(job: &Assignment, taken: &Taken, number: Result<Number, Spent>) -> 
     match number {
         Ok(number) => Ahead {
             stage: ReadStage::Freeing { number, gone: None },
-            queue: Queue::new(numbered_releases(job.n, job.id, number, taken.before())),
+            queue: Queue::releases(numbered_releases(job.n, job.id, number, taken.before())),
         },
         Err(spent) => Ahead {
             stage: ReadStage::Releasing {
                 cause: Cause::Spent { seen: spent.seen },
             },
-            queue: Queue::new(read_releases(job.mode, job.n, job.id, taken.before())),
+            queue: Queue::releases(read_releases(job.mode, job.n, job.id, taken.before())),
         },
     }
 }

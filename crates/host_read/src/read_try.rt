@@ -60,6 +60,23 @@ impl ReadTry {
         }
     }
 
+    /// Begins another read, as `begin` does, in the room of this one.
+    #[tactic(auto, using(attempts::proofs::PartLemmas::formed))]
+    pub fn renew(&mut self, mode: Mode, n: u8, id: Number, parts: RowParts)
+        requires bays { (3 ≤ n) × (n ≤ 16) }
+        requires id { (1 ≤ id.0) × (id.0 < 2 ^ 62) }
+        requires parts { AreRowParts n parts.items }
+        ensures { left self.new ≡ read_steps (record { mode = mode; n = n; id = id; parts = parts.items; blocks = [] }) }
+    {
+        let part = parts[0];
+        let job = Assignment { mode, n, id, parts };
+        self.queue = wanted_shares(&job, part);
+        self.job = job;
+        self.stage = ReadStage::Wanted;
+        self.taken.renew(part);
+        self.contents.clear();
+    }
+
     /// The next request, and the bay that it goes to. None exactly where the read has ended.
     pub fn next(&self, _blocks: &[[u8; 64]]) -> Option<(BayNo, Request)>
         ensures value { result ≡ option_map (λ (e : ErrandView). (e.bay, e.request)) (next_errand (left self.now)) }

@@ -95,9 +95,20 @@ fn two_units() -> RowParts
 
 /// Reads units 0 and 1 with these replies, and compares the requests, the contents and the end.
 fn reads(rt: &impl Abort, mode: Mode, steps: &[Step], ended: Ended, contents: &[Content]) {
+    let mut read = ReadTry::begin(mode, 4, ID, two_units());
+    follows(rt, &mut read, steps, ended, contents);
+}
+
+/// Goes through a read with these replies, and compares the requests, the contents and the end.
+fn follows(
+    rt: &impl Abort,
+    read: &mut ReadTry,
+    steps: &[Step],
+    ended: Ended,
+    contents: &[Content],
+) {
     let mut numbers = Numbers::new(HostNo(1));
     numbers.see(ID);
-    let mut read = ReadTry::begin(mode, 4, ID, two_units());
     for step in steps {
         let Some((bay, request, reply)) = *step else {
             continue;
@@ -260,4 +271,29 @@ fn under_locks_it_always_breaks_and_readers_are_given_back(rt: HostRuntime) {
     reads(&rt, Mode::Lock, &first, broken(2), &[]);
     let second = shares(shown(7), late, held, parity, None);
     reads(&rt, Mode::Lock, &second, broken(1), &[]);
+}
+
+/// Takes these replies to whatever is asked.
+fn takes(read: &mut ReadTry, replies: &[Reply]) {
+    let mut numbers = Numbers::new(HostNo(1));
+    for reply in replies {
+        if read.next(&[]).is_some() {
+            read.take(&[], reply, &mut numbers);
+        }
+    }
+}
+
+#[test]
+fn a_read_in_the_room_of_another_goes_as_a_fresh_one(rt: HostRuntime) {
+    let mut read = ReadTry::begin(Mode::Lock, 4, Number(33), two_units());
+    takes(&mut read, &[shown(9), MISSING, Reply::Fault]);
+    assert!(rt; read.next(&[]).is_some());
+    read.renew(Mode::Order, 4, ID, two_units());
+    let stamps = [share(3, shown(1)), share(0, shown(2))];
+    follows(&rt, &mut read, &stamps, read_at(17), &HELD);
+    read.renew(Mode::Lock, 4, ID, two_units());
+    let last = share(1, shown(4));
+    let done = |bay| numbered(bay, Reply::Done);
+    let locks = shares(shown(7), last, done(3), done(2), done(1));
+    follows(&rt, &mut read, &locks, read_at(49), &HELD);
 }

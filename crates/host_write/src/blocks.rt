@@ -1,20 +1,18 @@
 //! The blocks that a write puts.
-ghost use Rattle.std.specs.Prelude.{◌≡◌, ◌+◌, ◌-◌, ◌*◌, ◌<◌, ◌≤◌, length, take, drop, map, slice_index_or, unwrap_or, All};
+ghost use Rattle.std.specs.Prelude.{◌≡◌, ◌+◌, ◌*◌, ◌<◌, ◌≤◌, length, take, drop, map, slice_index_or, unwrap_or, All};
 ghost use Rattle.arrayvec.specs.ArrayVec.{array_vec_len};
 ghost use Rattle.raid_base.specs.Cells.{zeros, plain_cell};
 ghost use Rattle.stripe_layout.specs.Placement.{bay_of, unit_at, units_in};
 ghost use Rattle.virtual_objects.specs.Objects.{rank};
 ghost use Rattle.attempts.specs.Accesses.{access_of};
-ghost use Rattle.attempts.specs.Puts.{block_at, put, data_puts};
+ghost use Rattle.attempts.specs.Puts.{block_at, data_puts};
 
-use arrayvec::ArrayVec;
 use attempts::assignment::Assignment;
-use attempts::errands;
 use attempts::holds::wanted_granted;
-use attempts::queue::Queue;
+use attempts::queue::{CellPuts, Queue};
 use attempts::rows::Row;
 use attempts::units::units_in;
-use raid_base::{BayNo, Cell, Errand, Number, RowNo, RowPart};
+use raid_base::{BayNo, Cell, Number, RowNo, RowPart};
 use stripe_layout::{bay_of, parity_bay};
 
 /// A unit's place among some units, and their number where it is none of them.
@@ -61,28 +59,14 @@ pub fn new_blocks(blocks: &[[u8; 64]], part: RowPart) -> &[[u8; 64]]
     &blocks[at..at + part.count as usize]
 }
 
-/// The put of a unit's block.
-fn data_put(
-    job: &Assignment,
-    blocks: &[[u8; 64]],
-    number: Number,
-    part: RowPart,
-    unit: u8,
-) -> Errand
-    requires { unit < job.now.n - 1 }
-    ensures { result ≡ put job.now.id part.row number (plain_cell (block_at (access_of job.now blocks.now) part unit)) (bay_of job.now.n part.row unit) }
+/// The cell that a unit is to have.
+fn new_cell(job: &Assignment, blocks: &[[u8; 64]], part: RowPart, unit: u8) -> Cell
+    ensures { result ≡ plain_cell (block_at (access_of job.now blocks.now) part unit) }
 {
-    let cell = Cell {
+    Cell {
         bytes: block_at(job, blocks, part, unit),
         lost: 0,
-    };
-    errands::put(
-        job.id,
-        part.row,
-        number,
-        cell,
-        bay_of(job.n, part.row, unit),
-    )
+    }
 }
 
 /// The puts of the wanted units of a row that are there.
@@ -92,11 +76,12 @@ pub fn data_puts(job: &Assignment, blocks: &[[u8; 64]], number: Number, row: &Ro
 {
     let part = row.part();
     let units = wanted_granted(job.n, row);
-    let mut errands = ArrayVec::new();
+    let mut puts = CellPuts::new(job.id, part.row, number);
     for unit in units.as_slice() {
-        errands.push(data_put(job, blocks, number, part, *unit));
+        let cell = new_cell(job, blocks, part, *unit);
+        puts.push(cell, bay_of(job.n, part.row, *unit));
     }
-    Queue::new(errands)
+    Queue::puts(puts)
 }
 
 /// The unit on a bay, and 0 where the parity is there.

@@ -45,7 +45,7 @@ fn wanted_claims(job: &Assignment, want: bool, part: RowPart) -> Queue
 {
     let units = units_in(job.n, part.mask);
     let bays = bays_of(job.n, part.row, units.as_slice());
-    claims(job.id, part.row, How::Plain, want, bays.as_slice())
+    claims(job.id, part.row, How::Plain, want, bays)
 }
 
 /// The shares of the other units of its row.
@@ -55,7 +55,7 @@ fn other_shares(job: &Assignment, part: RowPart) -> Queue
 {
     let units = units_out(job.n, part.mask);
     let bays = bays_of(job.n, part.row, units.as_slice());
-    shares(job.id, part.row, bays.as_slice())
+    shares(job.id, part.row, bays)
 }
 
 /// What is given back of all that is held, where the write is refused while it claims.
@@ -65,11 +65,11 @@ pub fn refused(job: &Assignment, taken: &Taken, cause: Cause) -> Ahead
     ensures kept { (rows : List RowView) → (puts : PutsView) → is_kept result.stage job.now.n job.now.parts.items (length result.queue) taken.now rows puts ≡ true }
     ensures awake { is_settled result.stage ≡ true }
 {
-    let mut errands = write_releases(job.mode, job.n, job.id, taken.before());
-    push_write_row(&mut errands, job.mode, job.n, job.id, taken.row());
+    let mut releases = write_releases(job.mode, job.n, job.id, taken.before());
+    push_write_row(&mut releases, job.mode, job.n, taken.row());
     Ahead {
         stage: WriteStage::Release { cause },
-        queue: Queue::new(errands),
+        queue: Queue::releases(releases),
     }
 }
 

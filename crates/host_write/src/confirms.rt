@@ -115,7 +115,7 @@ pub fn unconfirmed(job: &Assignment, taken: &Taken, cause: Cause) -> Ahead
 {
     Ahead {
         stage: WriteStage::Release { cause },
-        queue: Queue::new(write_releases(job.mode, job.n, job.id, taken.before())),
+        queue: Queue::releases(write_releases(job.mode, job.n, job.id, taken.before())),
     }
 }
 

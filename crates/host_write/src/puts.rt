@@ -70,11 +70,21 @@ impl Puts {
         }
     }
 
+    /// Begins anew with nothing put, in the room of these.
+    pub fn clear(&mut self)
+        ensures { self.new ≡ no_puts }
+    {
+        self.made.clear();
+        self.answered = false;
+        self.left.clear();
+        self.troubles.clear();
+    }
+
     /// Begins with the next row.
     pub fn at_row(&mut self)
         ensures { self.new ≡ at_row self.old }
     {
-        self.left = ArrayVec::new();
+        self.left.clear();
     }
 
     /// The units that are left to the parity.

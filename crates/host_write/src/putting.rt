@@ -28,7 +28,7 @@ fn last_releases(job: &Assignment, rows: &[Row]) -> Queue
 {
     match job.mode {
         Mode::Order => Queue::empty(),
-        Mode::Lock => Queue::new(reader_releases(job.n, job.id, rows)),
+        Mode::Lock => Queue::releases(reader_releases(job.n, job.id, rows)),
     }
 }
 
@@ -119,7 +119,7 @@ fn first_put(
     ensures kept { (t : TakenView) → is_kept result.stage job.now.n job.now.parts.items (length result.queue) t rows.now puts.new ≡ true }
     ensures awake { is_settled result.stage ≡ true }
 {
-    *puts = Puts::new();
+    puts.clear();
     next_put(job, blocks, rows, puts, number, 0)
 }
 
@@ -159,7 +159,7 @@ fn drawn(
             stage: WriteStage::Release {
                 cause: Cause::Spent { seen: spent.seen },
             },
-            queue: Queue::new(write_releases(job.mode, job.n, job.id, rows)),
+            queue: Queue::releases(write_releases(job.mode, job.n, job.id, rows)),
         },
     }
 }

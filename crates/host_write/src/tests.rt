@@ -4,6 +4,7 @@
 ghost use Rattle.std.specs.Prelude.{◌≡◌, length};
 ghost use Rattle.virtual_objects.specs.RowParts.{AreRowParts};
 ghost use Rattle.attempts.specs.Parts.{blocks_in};
+ghost use Rattle.host_write.specs.Tries.{block_count};
 
 use crate::write_try::WriteTry;
 use arrayvec::ArrayVec;
@@ -240,9 +241,16 @@ fn writes(
     requires parts { AreRowParts 4 parts.items }
     requires blocks { length blocks.now ≡ blocks_in parts.items }
 {
+    let mut write = WriteTry::begin(mode, 4, ID, parts);
+    follows(rt, &mut write, blocks, steps, ended);
+}
+
+/// Goes through a write with these replies, and compares the requests and the end.
+fn follows(rt: &impl Abort, write: &mut WriteTry, blocks: &[[u8; 64]], steps: &[Step], ended: Ended)
+    requires { length blocks.now ≡ block_count write.old }
+{
     let mut numbers = Numbers::new(HostNo(1));
     numbers.see(ID);
-    let mut write = WriteTry::begin(mode, 4, ID, parts);
     for step in steps {
         let Some((bay, request, reply)) = *step else {
             continue;
@@ -328,9 +336,9 @@ fn a_full_plan_reads_nothing(rt: HostRuntime) {
     writes(&rt, Mode::Order, whole_row(), &BLOCKS, &full, wrote(17));
 }
 
-#[test]
-fn locks_draw_after_the_confirms_and_give_readers_back(rt: HostRuntime) {
-    let steps = [
+/// The steps of a write of units 0 and 1 under locks.
+fn lock_steps() -> [Step; 9] {
+    [
         claim(2, 3, false, granted(None, 40)),
         share(1, shown(4)),
         claim(3, 0, false, bare()),
@@ -340,7 +348,12 @@ fn locks_draw_after_the_confirms_and_give_readers_back(rt: HostRuntime) {
         put_at(49, 0, 9, Reply::Done),
         put_at(49, 2, 5, Reply::Done),
         release(1),
-    ];
+    ]
+}
+
+#[test]
+fn locks_draw_after_the_confirms_and_give_readers_back(rt: HostRuntime) {
+    let steps = lock_steps();
     writes(
         &rt,
         Mode::Lock,
@@ -684,4 +697,50 @@ fn a_refused_write_that_is_stopped_stays_refused(rt: HostRuntime) {
         (release(2), quit),
     ];
     stops(&rt, &refused);
+}
+
+/// Takes these replies to whatever is asked.
+fn takes(write: &mut WriteTry, blocks: &[[u8; 64]], replies: &[Reply])
+    requires { length blocks.now ≡ block_count write.old }
+{
+    let mut numbers = Numbers::new(HostNo(1));
+    for reply in replies {
+        if write.next(blocks).is_some() {
+            write.take(blocks, reply, &mut numbers);
+        }
+    }
+}
+
+/// Begins writes anew in the room of one of two rows that is left after these replies, and then of one that ended in
+/// part.
+fn begins_anew(rt: &impl Abort, replies: &[Reply]) {
+    let blocks = &BLOCKS[..2];
+    let mut write = WriteTry::begin(Mode::Order, 4, Number(33), two_rows());
+    takes(&mut write, blocks, replies);
+    assert!(rt; write.next(blocks).is_some());
+    write.renew(Mode::Order, 4, ID, two_units());
+    let steps = puts(Reply::Done, put(0, 9, ROBBED), None);
+    let seized = Cause::Seized { row: ROW };
+    follows(rt, &mut write, blocks, &steps, part(1, seized));
+    write.renew(Mode::Lock, 4, ID, two_units());
+    follows(rt, &mut write, blocks, &lock_steps(), wrote(49));
+}
+
+#[test]
+fn a_write_in_the_room_of_another_goes_as_a_fresh_one(rt: HostRuntime) {
+    let unconfirmed = [shown(7), shown(4), shown(7), shown(1), HELD, ROBBED];
+    begins_anew(&rt, &unconfirmed);
+    let refused = [shown(7), MISSING, shown(9), Reply::Fault];
+    begins_anew(&rt, &refused);
+    let putting = [
+        shown(7),
+        shown(4),
+        shown(7),
+        shown(1),
+        HELD,
+        HELD,
+        RENEWED,
+        Reply::Done,
+    ];
+    begins_anew(&rt, &putting);
 }

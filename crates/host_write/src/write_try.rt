@@ -66,6 +66,25 @@ impl WriteTry {
         }
     }
 
+    /// Begins another write, as `begin` does, in the room of this one.
+    #[tactic(auto, using(attempts::proofs::PartLemmas::formed, crate::proofs::ClaimLemmas::parts))]
+    pub fn renew(&mut self, mode: Mode, n: u8, id: Number, parts: RowParts)
+        requires bays { (3 ≤ n) × (n ≤ 16) }
+        requires id { (1 ≤ id.0) × (id.0 < 2 ^ 62) }
+        requires parts { AreRowParts n parts.items }
+        ensures count { block_count self.new ≡ blocks_in parts.items }
+        ensures left { (blocks : List (List ℕ)) → left self.new blocks ≡ write_steps (record { mode = mode; n = n; id = id; parts = parts.items; blocks = blocks }) }
+    {
+        let part = parts[0];
+        let job = Assignment { mode, n, id, parts };
+        self.queue = parity_claim(&job, part);
+        self.job = job;
+        self.stage = WriteStage::ClaimParity;
+        self.taken.renew(part);
+        self.confirmed.clear();
+        self.puts.clear();
+    }
+
     /// The next request, and the bay that it goes to. None exactly where the write has ended.
     pub fn next(&self, blocks: &[[u8; 64]]) -> Option<(BayNo, Request)>
         ensures value { result ≡ option_map (λ (e : ErrandView). (e.bay, e.request)) (next_errand (left self.now blocks.now)) }
@@ -189,7 +208,7 @@ impl WriteTry {
                     self.queue.advance();
                 } else {
                     let Ahead { stage, queue } = end_row(&self.job, &mut self.taken);
-                    self.confirmed = ArrayVec::new();
+                    self.confirmed.clear();
                     self.stage = stage;
                     self.queue = queue;
                 }
@@ -217,7 +236,7 @@ impl WriteTry {
                     self.queue.advance();
                 } else {
                     let Ahead { stage, queue } = after_small(&self.job, &mut self.taken);
-                    self.confirmed = ArrayVec::new();
+                    self.confirmed.clear();
                     self.stage = stage;
                     self.queue = queue;
                 }
@@ -291,7 +310,7 @@ impl WriteTry {
                     self.queue.advance();
                 } else {
                     let Ahead { stage, queue } = end_row(&self.job, &mut self.taken);
-                    self.confirmed = ArrayVec::new();
+                    self.confirmed.clear();
                     self.stage = stage;
                     self.queue = queue;
                 }

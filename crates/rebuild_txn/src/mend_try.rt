@@ -51,6 +51,19 @@ impl MendTry {
         }
     }
 
+    /// Begins another rebuild, as `begin` does, in the room of this one.
+    pub fn renew(&mut self, n: u8, id: Number, row: RowNo, target: BayNo)
+        requires bays { (3 ≤ n) × (n ≤ 16) }
+        requires id { (1 ≤ id.0) × (id.0 < 2 ^ 62) }
+        requires target { target.0 < n }
+        ensures { left self.new ≡ mend_steps (record { n = n; id = id; row = row; target = target }) }
+    {
+        self.job = Repair { n, id, row, target };
+        self.stage = MendStage::Claiming;
+        self.queue = claim_queue(self.job);
+        self.holds.clear();
+    }
+
     /// The next request, and the bay that it goes to. None exactly where the rebuild has ended.
     pub fn next(&self, _blocks: &[[u8; 64]]) -> Option<(BayNo, Request)>
         ensures value { result ≡ option_map (λ (e : ErrandView). (e.bay, e.request)) (next_errand (left self.now)) }

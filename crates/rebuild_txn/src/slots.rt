@@ -9,7 +9,7 @@ ghost use Rattle.attempts.specs.Mending.{is_bare, hold_of, with_hold, is_held_at
 
 use arrayvec::ArrayVec;
 use attempts::errands::{claims, confirm, push_releases};
-use attempts::queue::Queue;
+use attempts::queue::{Queue, Releases};
 use attempts::replies::refusal;
 use attempts::units::Bays;
 use attempts::whole_rows::{parity_first, row_bays};
@@ -36,7 +36,7 @@ pub fn claim_queue(job: Repair) -> Queue
     ensures len { length result ≡ job.n }
 {
     let bays = parity_first(job.n, job.row);
-    claims(job.id, job.row, How::Mend, true, bays.as_slice())
+    claims(job.id, job.row, How::Mend, true, bays)
 }
 
 /// Whether a slot has lost its cell although it isn't the target.
@@ -126,9 +126,9 @@ pub fn release_queue(job: Repair, holds: &[Hold]) -> Queue
     ensures { result ≡ mend_releases job holds.now }
 {
     let bays = held_bays(job, holds);
-    let mut errands = ArrayVec::new();
-    push_releases(&mut errands, job.id, job.row, None, bays.as_slice());
-    Queue::new(errands)
+    let mut releases = Releases::new(job.id, None);
+    push_releases(&mut releases, job.row, bays.as_slice());
+    Queue::releases(releases)
 }
 
 /// Adds a slot that isn't on this bay.

@@ -90,9 +90,14 @@ fn release(bay: u8) -> Step {
 fn rebuilds(rt: &impl Abort, target: u8, steps: &[Step], ended: Ended)
     requires { target < 4 }
 {
+    let mut rebuild = MendTry::begin(4, ID, ROW, BayNo(target));
+    follows(rt, &mut rebuild, steps, ended);
+}
+
+/// Goes through a rebuild with these replies, and compares the requests and the end.
+fn follows(rt: &impl Abort, rebuild: &mut MendTry, steps: &[Step], ended: Ended) {
     let mut numbers = Numbers::new(HostNo(1));
     numbers.see(ID);
-    let mut rebuild = MendTry::begin(4, ID, ROW, BayNo(target));
     for step in steps {
         let Some((bay, request, reply)) = *step else {
             continue;
@@ -239,4 +244,33 @@ fn refusals_after_the_claims_give_all_back(rt: HostRuntime) {
     for (steps, cause) in cases {
         rebuilds(&rt, 0, &steps, Ended::Refused(cause));
     }
+}
+
+/// Takes these replies to whatever is asked.
+fn takes(rebuild: &mut MendTry, replies: &[Reply]) {
+    let mut numbers = Numbers::new(HostNo(1));
+    for reply in replies {
+        if rebuild.next(&[]).is_some() {
+            rebuild.take(&[], reply, &mut numbers);
+        }
+    }
+}
+
+#[test]
+fn a_rebuild_in_the_room_of_another_goes_as_a_fresh_one(rt: HostRuntime) {
+    let mut rebuild = MendTry::begin(4, Number(33), RowNo(6), BayNo(1));
+    let held = granted(Some(cell(9, 0)), 40);
+    takes(&mut rebuild, &[held, held, Reply::Fault]);
+    assert!(rt; rebuild.next(&[]).is_some());
+    rebuild.renew(4, ID, ROW, BayNo(3));
+    let busy = Cause::Busy { holder: NOTE };
+    let refused = [
+        shown(2, 7),
+        claim(3, Reply::Busy { holder: NOTE }),
+        release(2),
+    ];
+    follows(&rt, &mut rebuild, &refused, Ended::Refused(busy));
+    rebuild.renew(4, ID, ROW, BayNo(0));
+    let steps = unit_steps(granted(Some(cell(7, 0)), 40), cell(2, 0));
+    follows(&rt, &mut rebuild, &steps, Ended::Mended);
 }

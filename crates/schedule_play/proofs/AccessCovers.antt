@@ -1,5 +1,5 @@
 -- Along every history accesses are covered.
-use Rattle.std.proofs.Common.{◌≡◌, ◌⊎◌, inl, inr, ℕ, ◌<◌, ◌≤◌, ◌==◌, ◌&&◌, max, Bool, true, false, if◌then◌else◌, List, [], ◌∷◌, length, Option, Some, None, refl, sym, ap, subst, ◌∙◌, arith}
+use Rattle.std.proofs.Common.{◌≡◌, inl, inr, ℕ, ◌<◌, ◌≤◌, ◌==◌, ◌&&◌, max, Bool, true, false, if◌then◌else◌, List, [], ◌∷◌, length, Option, Some, None, refl, sym, ap, subst, ◌∙◌, arith}
 use Rattle.std.specs.List.{AllByRecursion}
 use Rattle.std.proofs.lemmas.Bool.Decides.{nat_tests}
 use Rattle.raid_base.specs.declared.numbers.BayNo.{BayNo}
@@ -17,24 +17,23 @@ use Rattle.raid_base.specs.declared.messages.Request.TheVariants.{Share, Claim, 
 use Rattle.raid_base.specs.declared.messages.Reply.{Reply}
 use Rattle.raid_base.specs.declared.messages.Reply.TheVariants.{Granted, Busy, Late, Young, Missing, Held, NoNote, Done, Fault, Emptied, Fitted}
 use Rattle.raid_base.specs.Replies.{is_fault}
-use Rattle.raid_base.specs.Steps.{Steps, errand_of}
-use Rattle.slot_rules.specs.Slots.{Slot, Bay, first_slot, slot_of}
+use Rattle.raid_base.specs.Steps.{errand_of}
+use Rattle.slot_rules.specs.Slots.{Slot, Bay, slot_of}
 use Rattle.slot_rules.specs.Rules.{note_id, rule}
 use Rattle.slot_rules.specs.Serving as serving
 use Rattle.slot_rules.specs.Laws.{read_number, write_number, CoversRead, CoversWrite}
 use Rattle.slot_rules.specs.Laws as slots
 use Rattle.slot_rules.proofs.RowSteps.{RowStep, Touched, Passed, Bared, IsCapped, row_step, goes, capped}
-use Rattle.attempts.specs.Taking.{Finish}
 use Rattle.script_text.specs.Script.{Script}
 use Rattle.script_text.specs.Ranges.{IsScript}
 use Rattle.host_engine.specs.Calls.{Happened, row_of, id_of, read_of, write_of, is_row, is_at}
 use Rattle.host_engine.specs.Progress.{Progress, Work, Trying, Losing, Fitting, Over, work_errand}
 use Rattle.host_engine.specs.History.{IsHistory, IsNext, progress_at, bay_at, if_ruled}
 use Rattle.schedule_play.specs.RowStates.{slot_at}
-use Rattle.schedule_play.specs.Laws.{with_some, writes, reads, AtMost, IsCovered, AccessesAreCovered}
+use Rattle.schedule_play.specs.Laws.{with_some, writes, reads, AtMost, AccessesAreCovered}
 use Rattle.schedule_play.specs.Ids.{is_id, calls_with, IsNoteClaim}
 use Rattle.schedule_play.proofs.AccessTrees.{IsAsked, next-asked}
-use Rattle.schedule_play.proofs.AccessHosts.{InHand, HasWork, this-id, asked-id}
+use Rattle.schedule_play.proofs.AccessHosts.{HasWork, this-id}
 use Rattle.schedule_play.proofs.AccessIds.{same-bay, bay-rows, starts-first, notes-claimed, AllApart, asked-errand, asker-few, all-apart}
 
 -- A release with a number is of no note

@@ -1,5 +1,5 @@
 -- Along every history ids are apart.
-use Rattle.std.proofs.Common.{◌≡◌, ◌⊎◌, inl, inr, ℕ, ◌+◌, ◌%◌, ◌<◌, ◌≤◌, ◌==◌, Bool, true, false, cond, List, [], ◌∷◌, length, map, find, Option, Some, None, refl, sym, ap, subst, ◌∙◌, arith}
+use Rattle.std.proofs.Common.{◌≡◌, ◌⊎◌, inl, inr, ℕ, ◌+◌, ◌%◌, ◌<◌, ◌==◌, Bool, true, false, cond, List, [], ◌∷◌, length, map, find, Option, Some, None, refl, sym, ap, subst, ◌∙◌, arith}
 use Rattle.std.specs.Prelude.{nat_lt}
 use Rattle.std.specs.List.{AllByRecursion}
 use Rattle.std.proofs.lemmas.Bool.Decides.{nat_tests}
@@ -12,7 +12,6 @@ use Rattle.raid_base.specs.declared.messages.Ask.{Ask}
 use Rattle.raid_base.specs.declared.messages.Call.{Call}
 use Rattle.raid_base.specs.declared.messages.Note.{Note}
 use Rattle.raid_base.specs.declared.messages.Errand.{Errand}
-use Rattle.raid_base.specs.declared.messages.How.{How}
 use Rattle.raid_base.specs.declared.messages.Request.{Request}
 use Rattle.raid_base.specs.declared.messages.Request.TheVariants.{Share, Claim, Confirm, Put, Release, Lose, Fit}
 use Rattle.raid_base.specs.declared.messages.Reply.{Reply}
@@ -20,13 +19,12 @@ use Rattle.raid_base.specs.declared.messages.Reply.TheVariants.{Granted, Busy, L
 use Rattle.raid_base.specs.declared.jobs.Job.{Job}
 use Rattle.raid_base.specs.Numbers.{number}
 use Rattle.raid_base.specs.Replies.{is_fault}
-use Rattle.raid_base.specs.Steps.{Steps, errand_of}
+use Rattle.raid_base.specs.Steps.{errand_of}
 use Rattle.slot_rules.specs.Slots.{Slot, Bay, bare_slot, first_slot, slot_of}
 use Rattle.slot_rules.specs.Rules.{rule}
 use Rattle.slot_rules.specs.Serving.{row_of}
 use Rattle.slot_rules.specs.Laws.{claimed_note, NoteComes}
 use Rattle.slot_rules.proofs.RowSteps.{RowStep, Touched, Passed, Bared, row_step, goes}
-use Rattle.attempts.specs.Taking.{Finish}
 use Rattle.script_text.specs.Script.{Script, HostJobs, jobs_in, jobs_of}
 use Rattle.script_text.specs.Ranges.{IsScript, Rise}
 use Rattle.host_engine.specs.Calls.{Happened, id_of}
@@ -34,9 +32,9 @@ use Rattle.host_engine.specs.Progress.{Progress, Work, Trying, Losing, Fitting, 
 use Rattle.host_engine.specs.History.{IsHistory, IsNext, progress_at, if_taken, bay_at, if_ruled}
 use Rattle.host_engine.proofs.BoundsTakes.{before_start}
 use Rattle.schedule_play.specs.RowStates.{slot_at}
-use Rattle.schedule_play.specs.Ids.{calls_with, IsOwnId, IsSeenBy, IsNoteClaim, AreApart, IdsAreApart}
-use Rattle.schedule_play.proofs.AccessTrees.{IsAsked, next-asked}
-use Rattle.schedule_play.proofs.AccessHosts.{InHand, HasWork, Apart, asked-id, jobs-apart, takes-apart, other-apart, own-next}
+use Rattle.schedule_play.specs.Ids.{calls_with, IsOwnId, IsSeenBy, IsNoteClaim, IdsAreApart}
+use Rattle.schedule_play.proofs.AccessTrees.{next-asked}
+use Rattle.schedule_play.proofs.AccessHosts.{HasWork, Apart, asked-id, jobs-apart, takes-apart, other-apart, own-next}
 
 pub same-bay : (a b : BayNo) → (a.0 == b.0) ≡ true → a ≡ b
 same-bay a b e = let same : a.0 ≡ b.0 = grind (arith, nat_tests) in ap (λ (k : ℕ). record { 0 = k }) same

@@ -58,7 +58,7 @@ job-tasks : (script : Script) (host : HostNo) (jobs : List Job) → AllByRecursi
 job-tasks script host [] h = tt
 job-tasks script host (job ∷ jobs) h = (h.0.task, job-tasks script host jobs h.1)
 
-host-tasks : (script : Script) (host : HostNo) (hosts : List HostJobs) → AllByRecursion (λ (h : HostJobs). All (IsJob script h.host) h.jobs) hosts →
+pub host-tasks : (script : Script) (host : HostNo) (hosts : List HostJobs) → AllByRecursion (λ (h : HostJobs). All (IsJob script h.host) h.jobs) hosts →
     AllByRecursion (λ (job : Job). IsTask script host job.task) (jobs_in (find (λ (h : HostJobs). h.host.0 == host.0) hosts))
 host-tasks script host [] h = tt
 host-tasks script host (first ∷ hosts) h = by (first.host.0 == host.0) refl (host-tasks script host hosts h.1)
@@ -93,7 +93,7 @@ module _ (script : Script) (is : IsScript script) where
   ruled-rows bay call true e = (goes bay call.ask (is_fault call.answer.reply)).rows ∙ e
   ruled-rows bay call false e = e
 
-  bay-rows : (at : BayNo) (history : List Call) → length (bay_at script at history).slots ≡ script.rows
+  pub bay-rows : (at : BayNo) (history : List Call) → length (bay_at script at history).slots ≡ script.rows
   bay-rows at [] = length-replicate script.rows first_slot
   bay-rows at (call ∷ earlier) = ruled-rows (bay_at script at earlier) call (call.bay.0 == at.0) (bay-rows at earlier)
 
@@ -101,11 +101,11 @@ module _ (script : Script) (is : IsScript script) where
   ruled-mode bay call true e = (goes bay call.ask (is_fault call.answer.reply)).mode ∙ e
   ruled-mode bay call false e = e
 
-  bay-mode : (at : BayNo) (history : List Call) → (bay_at script at history).mode ≡ script.mode
+  pub bay-mode : (at : BayNo) (history : List Call) → (bay_at script at history).mode ≡ script.mode
   bay-mode at [] = refl
   bay-mode at (call ∷ earlier) = ruled-mode (bay_at script at earlier) call (call.bay.0 == at.0) (bay-mode at earlier)
 
-  starts : (at : BayNo) (row : RowNo) → row.0 < script.rows → slot_at script [] at row ≡ first_slot
+  pub starts : (at : BayNo) (row : RowNo) → row.0 < script.rows → slot_at script [] at row ≡ first_slot
   starts at row below = get_or-replicate script.rows row.0 first_slot (bare_slot (number 0)) below
 
   module _ (earlier : List Call) (call : Call) (next : IsNext script earlier call) where
@@ -115,7 +115,7 @@ module _ (script : Script) (is : IsScript script) where
     reply-is : call.answer.reply ≡ (rule (bay_at script call.bay earlier) call.ask (is_fault call.answer.reply)).reply
     reply-is = ap (λ (c : Call). c.answer.reply) next.replied
 
-    fitted : fits call.ask.what call.answer.reply ≡ true
+    pub fitted : fits call.ask.what call.answer.reply ≡ true
     fitted = ap (λ (x : Reply). fits call.ask.what x) reply-is ∙ replies_fit_lem (bay_at script call.bay earlier) call.ask (is_fault call.answer.reply)
 
     abbrev LotAt : BayNo → RowNo → Type 0

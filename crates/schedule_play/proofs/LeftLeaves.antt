@@ -186,7 +186,7 @@ row-apart row (part ∷ parts) h (inl same) =
     cc
 row-apart row (part ∷ parts) h (inr has) = row-apart row parts h.1 has
 
-rows-differ : (parts : List RowPart) → IsDistinct eqb (numbers (part_rows parts)) → RowsDiffer parts
+pub rows-differ : (parts : List RowPart) → IsDistinct eqb (numbers (part_rows parts)) → RowsDiffer parts
 rows-differ [] h = tt
 rows-differ (part ∷ parts) h =
     (row-apart part.row parts (IsDistinct-head eqb part.row.0 (numbers (part_rows parts)) h), rows-differ parts (IsDistinct-tail eqb part.row.0 (numbers (part_rows parts)) h))
@@ -198,7 +198,7 @@ pub record Leaving (mode : Mode) (id : Number) (held : List Holding) (steps : St
   pub leaves : Leaves mode (Aims aim) seizes id held steps
 
 module _ (script : Script) (is : IsScript script) (host : HostNo) (id : Number) where
-  found-parts : (object : Name) (first count : ℕ) (parts : List RowPart) → 1 ≤ count → (found : Option (List RowNo)) →
+  pub found-parts : (object : Name) (first count : ℕ) (parts : List RowPart) → 1 ≤ count → (found : Option (List RowNo)) →
       rows_of script.objects object ≡ found → parts_found (script.n - 1) first count found ≡ Ok parts → AreRowParts script.n parts
   found-parts object first count parts some None none ok = absurd (cc)
   found-parts object first count parts some (Some rows) found ok =

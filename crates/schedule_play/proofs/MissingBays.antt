@@ -36,10 +36,10 @@ use Rattle.schedule_play.proofs.MissingSlots.{is_filled, cells-stay, filled-ther
 use Rattle.schedule_play.proofs.MissingTrees.{fills, fill_of, or-either, told-mends}
 use Rattle.schedule_play.proofs.MissingHosts.{IsGone, Sound, Ready, Filled, SafeSteps, SafeWork, Safe, ended-safe, left-safe, begins-safe}
 
-same-bay : (a b : BayNo) → (a.0 == b.0) ≡ true → a ≡ b
+pub same-bay : (a b : BayNo) → (a.0 == b.0) ≡ true → a ≡ b
 same-bay a b e = let same : a.0 ≡ b.0 = grind (arith, nat_tests) in ap (λ (k : ℕ). record { 0 = k }) same
 
-same-host : (a b : HostNo) → (a.0 == b.0) ≡ true → a ≡ b
+pub same-host : (a b : HostNo) → (a.0 == b.0) ≡ true → a ≡ b
 same-host a b e = let same : a.0 ≡ b.0 = grind (arith, nat_tests) in ap (λ (k : ℕ). record { 0 = k }) same
 
 same-row : (row : RowNo) (r : Option RowNo) → is_row row r ≡ true → r ≡ Some row
@@ -151,7 +151,7 @@ module _ (script : Script) (is : IsScript script) (host : HostNo) (H K : BayNo �
   work-safe p call Over s w asked m = absurd (cc)
 
   -- a host that is not the operator asks for rows alone
-  asks-rows : (js : List Job) (known : Option Gone) (row : ℕ) (work : Work) (e : Errand) (r : Reply) → (host.0 ≡ 0 → ⊥) → SafeWork script is host H js known row work → work_errand work ≡ Some e →
+  pub asks-rows : (js : List Job) (known : Option Gone) (row : ℕ) (work : Work) (e : Errand) (r : Reply) → (host.0 ≡ 0 → ⊥) → SafeWork script is host H js known row work → work_errand work ≡ Some e →
       is_some (row_of e.request) ≡ true
   asks-rows [] known row (Trying steps) e r other w asked = absurd w
   asks-rows (job ∷ jobs) known row (Trying steps) e r other w asked = (told-mends (fill_of job.task row) w.filled host (number 0) steps e r w.mends asked).0
@@ -201,7 +201,7 @@ module _ (script : Script) (is : IsScript script) where
         by true e = let same : call.bay.0 ≡ at.0 = grind (arith, nat_tests) in absurd (apart same)
         by false e = there
 
-    reply-is : call.answer.reply ≡ (rule (bay_at script call.bay earlier) call.ask (is_fault call.answer.reply)).reply
+    pub reply-is : call.answer.reply ≡ (rule (bay_at script call.bay earlier) call.ask (is_fault call.answer.reply)).reply
     reply-is = ap (λ (c : Call). c.answer.reply) next.replied
 
     now-filled : (at : BayNo) (row : RowNo) → row.0 < script.rows → fills at row (errand_of call) call.answer.reply ≡ true → Here (call ∷ earlier) at row
@@ -229,7 +229,7 @@ module _ (script : Script) (is : IsScript script) where
     asked-errand =
         sent-errand call.ask.host (progress_at script call.ask.host earlier).clock call.ask.moment (work_errand (progress_at script call.ask.host earlier).work) call.bay call.ask next.asked
 
-    own-errand : (host : HostNo) → (call.ask.host.0 == host.0) ≡ true → work_errand (progress_at script host earlier).work ≡ Some (errand_of call)
+    pub own-errand : (host : HostNo) → (call.ask.host.0 == host.0) ≡ true → work_errand (progress_at script host earlier).work ≡ Some (errand_of call)
     own-errand host own = subst (λ (x : HostNo). work_errand (progress_at script x earlier).work ≡ Some (errand_of call)) (same-host call.ask.host host own) asked-errand
 
     -- every host goes on
@@ -257,7 +257,7 @@ module _ (script : Script) (is : IsScript script) where
             let rowed = asks-rows script is call.ask.host Any Any p.jobs p.gone p.row p.work (errand_of call) call.answer.reply other asker.work asked-errand in
             safe-map script is host (Here earlier) (Here (call ∷ earlier)) (stays rowed) (progress_at script host earlier) s
 
-  every-host : (history : List Call) → IsHistory script history → (host : HostNo) → Safe script is host Any (progress_at script host history)
+  pub every-host : (history : List Call) → IsHistory script history → (host : HostNo) → Safe script is host Any (progress_at script host history)
   every-host [] h host = begins-safe script is host Any (λ at row within below. tt)
   every-host (call ∷ earlier) h host = host-next earlier call h.1 host (every-host earlier h.0 host)
 

@@ -26,7 +26,7 @@ use Rattle.host_engine.specs.Quotas.{all_quotas}
 use Rattle.host_engine.specs.Bounds.{IsPlayable, host_requests, host_contents}
 use Rattle.host_engine.specs.HostLaws.{IsBounded}
 use Rattle.host_engine.specs.Plain.{FitsNext}
-use Rattle.host_engine.specs.Stands.{Stands, CanTake, sent_pair}
+use Rattle.host_engine.specs.Stands.{Stands, CanTake, IsSentBy, sent_pair}
 use Rattle.schedule_play.specs.World.{HostShows, BayShows, Shows, all_requests}
 use Rattle.schedule_play.specs.declared.world.World.{World}
 use Rattle.block_store.specs.declared.store.Store.{Ghosts}
@@ -35,6 +35,7 @@ use Rattle.stripe_layout.specs.Placement.{bay}
 use Rattle.host_engine.proofs.BoundsTakes.{asks-within, sent-errand}
 use Rattle.host_engine.proofs.BoundsHistory.{requests_are_bounded}
 use Rattle.host_engine.proofs.Quotas.{requests_keep_quotas}
+use Rattle.host_engine.proofs.TakeLemmas.{sent-is}
 
 -- what is handed out is what is asked
 pub pair-sent : (o : Option Sent) (bay : BayNo) (ask : Ask) → Some (bay, ask) ≡ sent_pair o → o ≡ Some (record { bay = bay; ask = ask })
@@ -47,7 +48,7 @@ pub pair-none : (o : Option Sent) → None ≡ sent_pair o → o ≡ None
 pair-none None e = refl
 pair-none (Some sent) e = cc
 
-asked-row : (rows : ℕ) (request : Request) → IsAskable rows request → IfSome (row_of request) (λ row. row.0 < rows)
+pub asked-row : (rows : ℕ) (request : Request) → IsAskable rows request → IfSome (row_of request) (λ row. row.0 < rows)
 asked-row rows (Share row id want) a = a.0
 asked-row rows (Claim row id how mask want) a = a.0
 asked-row rows (Confirm row id want) a = a.0
@@ -141,6 +142,12 @@ can-take script history host moment sent given playable asked shows asks_it fit 
       calls = omega (arith, host.transcript.ok.0, ap length shows.calls, shows.room, now.transcripts host.no);
       reads = shows.reads;
     }
+
+-- what a host asks in its world is what it has sent
+pub shown-sent : (script : Script) (history : List Call) (host : Host) (moment : ℕ) (sent : Sent) → HostShows script history host →
+    asks host.no (progress_at script host.no history) moment ≡ Some sent → IsSentBy host moment sent
+shown-sent script history host moment sent shows asks_it =
+    sym (sent-is script host.no host (progress_at script host.no history) moment shows.stands) ∙ asks_it
 
 pub length-turns : (history : List Call) → length (turns_of history) ≡ length history
 length-turns [] = refl

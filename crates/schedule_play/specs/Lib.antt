@@ -11,3 +11,7 @@ pub mod FirstForm
 pub mod Rows
 pub mod Gathering
 pub mod Ids
+pub mod Hands
+pub mod Holding
+pub mod Commits
+pub mod Lone

@@ -1,8 +1,11 @@
 //! Laws of plays, each the contract of a function without a body.
+ghost use Rattle.schedule_play.specs.Commits.{CommitsAreOfOwners};
 ghost use Rattle.schedule_play.specs.FirstForm.{FirstPlaysAreSerial, FirstPlaysKeepParity, FirstFormsAreFirst};
+ghost use Rattle.schedule_play.specs.Holding.{BlankNotesMend, UnitsAreOfWrites, AnsweredAreFree, HoldersKeepNotes, PuttersOwnRows, PutsAreOfOwners};
 ghost use Rattle.schedule_play.specs.Ids.{IdsAreApart};
 ghost use Rattle.schedule_play.specs.Laws.{OneIsMissing, AccessesAreCovered};
 ghost use Rattle.schedule_play.specs.Leftovers.{RefusedLeaveNothing};
+ghost use Rattle.schedule_play.specs.Lone.{LoneHostsAreDone};
 
 /// One host writes a block of a row of two units under stamps, and then reads it. Each such play in which no store fails
 /// and which comes to its end is serial: its results and contents are those of a serial array, and so is each block that
@@ -44,4 +47,53 @@ pub fn ids_are_apart()
 /// most the slot's own numbers while its device is there.
 pub fn accesses_are_covered()
     ensures { AccessesAreCovered }
+{}
+
+/// One host alone is never refused: along every history of a script whose jobs are all of one host, which only reads and
+/// writes and is not to stop, and in which no bay has answered Fault, each job that has parts is done at its first attempt.
+pub fn lone_hosts_are_done()
+    ensures { LoneHostsAreDone }
+{}
+
+/// Where a slot has no cell its note is a rebuild's: after every history of a script a note on such a slot is its own origin,
+/// and came by a claim of its host to mend the slot.
+pub fn blank_notes_mend()
+    ensures { BlankNotesMend }
+{}
+
+/// Units in a note are of a write: after every history of a script a note that has units stands at its row's parity, and
+/// came from a claim of the parity with these units and the note's origin as its id, whose write has not put the parity.
+pub fn units_are_of_writes()
+    ensures { UnitsAreOfWrites }
+{}
+
+/// A recovery finds no holder: after every history of a script, while a recovery in hand holds the parity of its row, no write
+/// or rebuild in hand that has confirmed the row holds a unit of which a claim of the recovery was granted or found missing.
+pub fn answered_are_free()
+    ensures { AnsweredAreFree }
+{}
+
+/// While an attempt that gives nothing back holds the parity of a row, each unit that was granted to its claim, is there, was
+/// not lost since, and was not put by it, has a note: of the origin that the claim gave it, and of this attempt or of a
+/// recovery that has seized it and that has not confirmed the row.
+pub fn holders_keep_notes()
+    ensures { HoldersKeepNotes }
+{}
+
+/// A write or rebuild in hand that has confirmed a row, and may still put a unit of it whose note it has, owns the row: its
+/// parity has no cell, or a note that came from that attempt.
+pub fn putters_own_rows()
+    ensures { PuttersOwnRows }
+{}
+
+/// A unit is put only by an attempt that owns its row: after every history of a script, where the next call is a put of a unit
+/// that is done, the row's parity has no cell before it, or a note that came from the attempt that puts.
+pub fn puts_are_of_owners()
+    ensures { PutsAreOfOwners }
+{}
+
+/// A unit takes a content only by a put of itself that was done, with that content, of an attempt that owned the row, or by a
+/// put of its row's parity that was done.
+pub fn commits_are_of_owners()
+    ensures { CommitsAreOfOwners }
 {}

@@ -20,10 +20,7 @@ use script_text::Script;
 fn waiting(host: &Host) -> Option<HostNo>
     ensures { (script : Script) (history : List Call) → IsPlayable script → AreAsked script history → HostShows script history host.now → result ≡ unless_ended (has_ended script history host.now.no) host.now.no }
 {
-    match host.next(0) {
-        Some((_, ask)) => Some(ask.host),
-        None => None,
-    }
+    host.waiting()
 }
 
 /// The moment of the last turn, or 0.

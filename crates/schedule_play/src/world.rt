@@ -49,7 +49,7 @@ impl<'s, D: Store> World<'s, D> {
         let device = &mut self.bays[bay.0 as usize];
         let answer = device.handle(&ask);
         let host = &mut self.hosts[place];
-        host.take(moment, &answer);
+        host.heard(moment, bay, &ask, &answer);
         self.turns.push_reserved(Turn {
             host: ask.host,
             moment,

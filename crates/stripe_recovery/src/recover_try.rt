@@ -55,6 +55,18 @@ impl RecoverTry {
         }
     }
 
+    /// Begins another recovery, as `begin` does, in the room of this one.
+    pub fn renew(&mut self, n: u8, host: HostNo, id: Number, row: RowNo)
+        requires bays { (3 ≤ n) × (n ≤ 16) }
+        requires id { (1 ≤ id.0) × (id.0 < 2 ^ 62) }
+        ensures { left self.new ≡ recover_steps (record { n = n; host = host; id = id; row = row }) }
+    {
+        self.job = Rescue { n, host, id, row };
+        self.stage = RecoverStage::Parity;
+        self.taken.renew(whole_part(self.job));
+        self.queue = parity_claim(self.job);
+    }
+
     /// The next request, and the bay that it goes to. None exactly where the recovery has ended.
     pub fn next(&self, _blocks: &[[u8; 64]]) -> Option<(BayNo, Request)>
         ensures value { result ≡ option_map (λ (e : ErrandView). (e.bay, e.request)) (next_errand (left self.now)) }

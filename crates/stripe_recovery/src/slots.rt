@@ -11,7 +11,7 @@ use arrayvec::ArrayVec;
 use attempts::Rescue;
 use attempts::errands::{claim, claims, confirm, push_releases};
 use attempts::holds::bays_of;
-use attempts::queue::Queue;
+use attempts::queue::{Queue, Releases};
 use attempts::rows::Row;
 use attempts::units::{Bays, Units, granted_of};
 use attempts::whole_rows::{all_units, unit_bays};
@@ -47,7 +47,7 @@ pub fn unit_claims(job: Rescue) -> Queue
     ensures len { length result ≡ job.n - 1 }
 {
     let bays = unit_bays(job.n, job.row);
-    claims(job.id, job.row, How::Seize, true, bays.as_slice())
+    claims(job.id, job.row, How::Seize, true, bays)
 }
 
 /// The confirm of the parity's note.
@@ -147,9 +147,9 @@ fn give_back(job: Rescue, bays: &Bays) -> Queue
     requires { array_vec_len bays.now ≤ 32 }
     ensures { result ≡ give_back job bays.now.items }
 {
-    let mut errands = ArrayVec::new();
-    push_releases(&mut errands, job.id, job.row, None, bays.as_slice());
-    Queue::new(errands)
+    let mut releases = Releases::new(job.id, None);
+    push_releases(&mut releases, job.row, bays.as_slice());
+    Queue::releases(releases)
 }
 
 /// The releases of a recovery that is refused: it keeps what it seized.

@@ -118,9 +118,14 @@ fn stopped_after(step: (u8, Request, Reply), before: Ended, ended: Ended) -> End
 
 /// Recovers the row with these replies, and compares the requests and the end.
 fn recovers(rt: &impl Abort, steps: &[Step], ended: Ended) {
+    let mut recovery = RecoverTry::begin(4, OPERATOR, ID, ROW);
+    follows(rt, &mut recovery, steps, ended);
+}
+
+/// Goes through a recovery with these replies, and compares the requests and the end.
+fn follows(rt: &impl Abort, recovery: &mut RecoverTry, steps: &[Step], ended: Ended) {
     let mut numbers = Numbers::new(OPERATOR);
     numbers.see(ID);
-    let mut recovery = RecoverTry::begin(4, OPERATOR, ID, ROW);
     let mut stopped = Ended::Refused(Cause::Quit);
     for step in steps {
         let Some((bay, request, reply)) = *step else {
@@ -319,4 +324,39 @@ fn a_second_missing_bay_breaks_the_row(rt: HostRuntime) {
     let second = BayNo(1);
     let broken = Cause::Broken { first, second };
     recovers(&rt, &steps, Ended::Refused(broken));
+}
+
+/// Takes these replies to whatever is asked.
+fn takes(recovery: &mut RecoverTry, replies: &[Reply]) {
+    let mut numbers = Numbers::new(HostNo(1));
+    for reply in replies {
+        if recovery.next(&[]).is_some() {
+            recovery.take(&[], reply, &mut numbers);
+        }
+    }
+}
+
+#[test]
+fn a_recovery_in_the_room_of_another_goes_as_a_fresh_one(rt: HostRuntime) {
+    let mut recovery = RecoverTry::begin(4, HostNo(1), Number(17), RowNo(6));
+    let plain = granted(7, 0, None);
+    takes(&mut recovery, &[plain, MISSING, plain, Reply::Fault]);
+    assert!(rt; recovery.next(&[]).is_some());
+    recovery.renew(4, OPERATOR, ID, ROW);
+    let no_note = confirm(Reply::NoNote { life: 0 });
+    let steps = refused(plain, no_note, None, release(2));
+    let changed = Cause::Changed { row: ROW };
+    follows(&rt, &mut recovery, &steps, Ended::Refused(changed));
+    recovery.renew(4, OPERATOR, ID, ROW);
+    let torn = [
+        claim(2, granted(7, 0, Some(note(2)))),
+        claim(3, granted(1, 0, None)),
+        claim(0, MISSING),
+        claim(1, granted(4, 0, None)),
+        confirm(HELD),
+        put(cell(5, 2), Reply::Done),
+        release(3),
+        release(1),
+    ];
+    follows(&rt, &mut recovery, &torn, recovered(Some(1)));
 }

@@ -68,7 +68,7 @@ returns-in-Err-finish-clause-refused g c =
     let start = over-start script stores c.in-Ok.world c.in-Ok.ensures.large c.in-Ok.ensures.over c.in-Ok.ensures.shows c.in-Ok.ensures.others in
     let over = over-on script p.history stores c.in-Ok.world c.play.new.self start (k.over stores) p.shows k.others in
     let last = over-on script p.history stores c.play.new.self c.finish.new.self over (c.finish.ensures.over stores) shows c.finish.ensures.others in
-    unread-stops g.met.D.Store.whole script c.requires.script stores p.history c.play.new.self c.finish.new.self c.in-Err-finish.bay c.closed.result over last p.shows shows
+    unread-stops g.met.D.Store.whole script c.requires.script c.requires.few stores p.history c.play.new.self c.finish.new.self c.in-Err-finish.bay c.closed.result over last p.shows shows
     c.closed.ensures.status
     (record { journals = c.closed.ensures.journals; results = c.closed.ensures.results; turns = c.closed.ensures.turns; stores = c.closed.ensures.stores })
     (ap (λ (r : _). r.items) c.closed.ensures.results ∙ c.finish.ensures.results script p.history p.shows)

@@ -6,4 +6,6 @@ use Rattle.attempts.specs.Releases.{releases, others_granted}
 use Rattle.attempts.proofs.holds.reader_releases.Given as goal
 
 abbrev pub invariant-loop-row : goal.invariant-loop-row
-invariant-loop-row l = (l.errands.items ≡ flat_map (λ (row : RowView). releases l.id row.part.row None (bays_of l.n row.part.row (others_granted l.n row))) (take l.row-index l.rows)) × (length l.errands.items ≤ 16 * l.row-index)
+invariant-loop-row l =
+    (l.releases ≡ record { id = l.fn.id; number = None; errands = flat_map (λ (row : RowView). releases l.fn.id row.part.row None (bays_of l.n row.part.row (others_granted l.n row))) (take l.row-index l.rows) })
+    × (length l.releases.errands ≤ 16 * l.row-index)

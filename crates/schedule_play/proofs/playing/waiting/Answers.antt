@@ -1,11 +1,13 @@
-use Rattle.std.proofs.Common.{sym, ◌∙◌, ap}
-use Rattle.schedule_play.proofs.AwakeLemmas.{asker-of, waits-or-not}
+use Rattle.std.proofs.Common.{◌≡◌, refl, ◌∙◌, Bool, true, false, if◌then◌else◌, Some, None}
+use Rattle.raid_base.specs.declared.numbers.HostNo.{HostNo}
+use Rattle.host_engine.specs.History.{has_ended}
+use Rattle.schedule_play.specs.Plays.{unless_ended}
 use Rattle.schedule_play.proofs.playing.waiting.Goals as goal
 
-pub returns-in-Some : goal.returns-in-Some
-returns-in-Some c script history playable asked shows =
-    ap asker-of (sym c.in-Some.is ∙ c.next.ensures script c.args.host.now.no _ shows.stands) ∙ waits-or-not script c.args.host.now.no history playable asked
+unless-if : (ended : Bool) (host : HostNo) → (if ended then None else Some host) ≡ unless_ended ended host
+unless-if true host = refl
+unless-if false host = refl
 
-pub returns-in-None : goal.returns-in-None
-returns-in-None c script history playable asked shows =
-    ap asker-of (sym c.in-None.is ∙ c.next.ensures script c.args.host.now.no _ shows.stands) ∙ waits-or-not script c.args.host.now.no history playable asked
+pub returns : goal.returns
+returns c script history playable asked shows =
+    c.waiting.ensures script c.args.host.now.no _ shows.stands ∙ unless-if (has_ended script history c.args.host.now.no) c.args.host.now.no

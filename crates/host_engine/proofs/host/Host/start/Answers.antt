@@ -1,7 +1,7 @@
-use Rattle.std.proofs.Common.{sym, ◌∙◌, subst, Bool, false, arith}
+use Rattle.std.proofs.Common.{sym, ◌∙◌, ◌≤◌, length, subst, Bool, false, arith}
 use Rattle.host_engine.specs.Progress.{Progress}
 use Rattle.host_engine.specs.Stands.{Stands, Skips, BeginsFirst}
-use Rattle.host_engine.proofs.HostLemmas.{start-more, start-stands}
+use Rattle.host_engine.proofs.HostLemmas.{start-more, start-over, start-stands}
 use Rattle.host_engine.proofs.host.Host.start.Goals as goal
 
 pub loop-self-preserved : goal.loop-self-preserved
@@ -30,3 +30,10 @@ returns-then-begin_job-clause-stands c = λ script host p h.
     let q = c.loop-self.invariant.goes script host p h in
     let begun = subst (λ (b : Bool). BeginsFirst script host q.0.jobs b q.0 c.begin_job.new.self) c.if-begin_job.true (c.begin_job.ensures.begun script host q.0 q.1) in
     subst (λ (r : Progress). Stands script host c.begin_job.new.self r) (sym q.2) (start-stands script host q.0 c.begin_job.new.self begun)
+
+pub returns-clause-stands : goal.returns-clause-stands
+returns-clause-stands c = λ script host p h.
+    let now = c.loop-self.self in
+    let q = c.loop-self.invariant.goes script host p h in
+    let past : length now.jobs.now ≤ now.job = omega (arith, c.loop-self-test.false) in
+    subst (λ (r : Progress). Stands script host now r) (sym q.2) (start-over script host now q.0 q.1 c.loop-self.invariant.none past)

@@ -8,11 +8,11 @@ use Rattle.host_engine.proofs.host.Host.try_task.Goals as goal
 pub returns-in-Ok-clause-begun : goal.returns-in-Ok-clause-begun
 returns-in-Ok-clause-begun c = λ script host p h first rest.
     let drawn = sym c.draw.ensures.value ∙ c.in-Ok.is in
-    stands-tried script host c.args.self.now _ p c.args.task.now c.in-Ok.id c.begin-attempt.result rest h first drawn c.begin-attempt.ensures.steps c.begin-attempt.ensures.asks c.begin-attempt.ensures.suits
+    stands-tried script host c.args.self.now _ p c.args.task.now c.in-Ok.id c.begin.new.self rest h first drawn c.begin.ensures.steps c.begin.ensures.asks c.begin.ensures.suits
     refl refl refl refl refl refl refl refl
     (ap (λ (n : Numbers). n.host) c.draw.ensures.new)
     (ap (λ (n : Numbers). n.seen) c.draw.ensures.new ∙ ap (seen_drawn c.args.self.now.numbers.seen) drawn)
-    refl refl refl refl
+    refl refl refl refl refl
 
 pub returns-in-Err-clause-begun : goal.returns-in-Err-clause-begun
 returns-in-Err-clause-begun c = λ script host p h first.

@@ -1,10 +1,10 @@
 use Rattle.std.proofs.Common.{◌<◌, ◌^◌, refl, subst, arith, is_some, sym, ap, ◌∙◌}
 use Rattle.host_engine.specs.declared.host.Host.{Host}
-use Rattle.host_engine.specs.Stands.{CanTake}
+use Rattle.host_engine.specs.Stands.{CanTake, IsSentBy}
 use Rattle.script_text.specs.Script.{Script}
 use Rattle.host_engine.specs.Bounds.{IsPlayable}
 use Rattle.schedule_play.specs.World.{all_requests}
-use Rattle.schedule_play.proofs.TurnLemmas.{turn-facts, read-bay, ask-fits-bay, can-take}
+use Rattle.schedule_play.proofs.TurnLemmas.{turn-facts, read-bay, ask-fits-bay, can-take, shown-sent}
 use Rattle.schedule_play.proofs.TurnedLemmas.{one-script, tells-asked, tells-back, tells-on, turned-none, turned-some}
 use Rattle.schedule_play.proofs.WorldLemmas.{same_read}
 use Rattle.schedule_play.proofs.KeepLemmas.{keeps-nothing, keeps-turn}
@@ -38,8 +38,8 @@ handle-answer-requires-clause-room g c =
     (ask-fits-bay r.script r.history c.index-host.result.now c.args.moment (record { bay = c.in-Some.sent.0; ask = c.in-Some.sent.1 }) c.index_mut-device.result.now f.facts
     (read-bay r.script r.history c.args.self.now c.in-Some.sent.0.0 c.index_mut-device.result.now r.shows f.inside c.index_mut-device.ensures.value)).1
 
-pub take-requires : goal.take-requires
-take-requires g c =
+pub heard-requires : goal.heard-requires
+heard-requires g c =
     let r = c.requires.ready in
     let f = turn-facts r.script r.history c.args.self.now c.args.place c.index-host.result.now c.args.moment c.in-Some.sent.0 c.in-Some.sent.1 c.next.result
     r.playable r.few r.shows c.requires.place c.index-host.ensures c.next.ensures c.in-Some.is in
@@ -47,6 +47,8 @@ take-requires g c =
     record {
       ready = subst (λ (h : Host). CanTake h c.args.moment c.handle-answer.result) same
           (can-take r.script r.history c.index-host.result.now c.args.moment (record { bay = c.in-Some.sent.0; ask = c.in-Some.sent.1 }) c.handle-answer.result r.playable r.shows.asked f.shows_host f.asked c.handle-answer.ensures.fits);
+      sent = subst (λ (h : Host). IsSentBy h c.args.moment (record { bay = c.in-Some.sent.0; ask = c.in-Some.sent.1 })) same
+          (shown-sent r.script r.history c.index-host.result.now c.args.moment (record { bay = c.in-Some.sent.0; ask = c.in-Some.sent.1 }) f.shows_host f.asked);
     }
 
 pub push_reserved-requires : goal.push_reserved-requires
@@ -60,7 +62,7 @@ pub returns-clause-turned : goal.returns-clause-turned
 returns-clause-turned g c = λ host is script history shows.
     let r = c.requires.ready in
     let same = one-script r.script script r.history history c.args.self.now r.shows shows in
-    turned-some script history c.args.self.now _ c.args.place c.args.moment host c.index-host.result.now c.index_mut-host.result.now c.take.new.self
+    turned-some script history c.args.self.now _ c.args.place c.args.moment host c.index-host.result.now c.index_mut-host.result.now c.heard.new.self
     c.in-Some.sent.0 c.in-Some.sent.1 c.next.result c.handle-answer.result c.index_mut-device.result.now c.handle-answer.new.self
     (subst IsPlayable same r.playable) (subst (λ (s : Script). all_requests s < 2 ^ 62) same r.few) shows c.requires.place is c.index-host.ensures c.index_mut-host.ensures.value c.next.ensures c.in-Some.is
     c.index_mut-device.ensures.value
@@ -73,7 +75,7 @@ returns-clause-turned g c = λ host is script history shows.
       rows = c.handle-answer.ensures.rows;
       cap = c.handle-answer.ensures.cap;
     })
-    c.take.ensures refl refl refl c.push_reserved.ensures.items c.push_reserved.ensures.capacity
+    c.heard.ensures refl refl refl c.push_reserved.ensures.items c.push_reserved.ensures.capacity
 
 pub returns-clause-tells : goal.returns-clause-tells
 returns-clause-tells g c =
