@@ -1,14 +1,14 @@
 #!/bin/sh
 # Lets one allocation after another of a run fail, and says how each run has ended.
 #
-# usage: bench/memory.sh [FROM [TO]]     which allocations fail, 0 to 99 if left out
+# usage: bench/memory.sh [FROM [TO]]     which allocations fail, 1 to 99 if left out
 #
 # The run is `array sim` on the smallest script. Where the allocation of this number fails, the run must end as `memory`, with
 # exit number 11 and nothing printed. Where it takes fewer, it must end as done, with its report; the script then ends.
 # It needs rt, and takes about half a minute for each allocation. The status is 0 where each run ended so.
 set -eu
 
-from=${1:-0}
+from=${1:-1}
 to=${2:-99}
 root=$(cd "$(dirname "$0")/.." && pwd)
 work=$(mktemp -d)
