@@ -64,10 +64,10 @@ use Rattle.schedule_play.proofs.RowOwnersCalls.{noted-by, noted-has}
 use Rattle.schedule_play.proofs.HoldingLaws.{putters_own_rows}
 
 -- what is put is a parity
-abbrev PutsParity : ℕ → Errand → Type 0
+abbrev pub PutsParity : ℕ → Errand → Type 0
 PutsParity n e = (row : RowNo) (id k : Number) (cell : Cell) → e.request ≡ Put row id k cell → e.bay ≡ parity_bay n row
 
-abbrev Aims : ℕ → List Call → Errand → Type 0
+abbrev pub Aims : ℕ → List Call → Errand → Type 0
 Aims n calls e = PutsParity n e
 
 -- Reads: what has been put stays so to the end, where nothing was
@@ -194,7 +194,7 @@ reads-put script id (Ok parts) =
     reading-puts a.n a.id (begins (number_of a.mode a.id)) (read_of script id (Ok parts)) (reads_keep_phases a) []
 reads-put script id (Err fault) = tt
 
-putter-or : (script : Script) (host : HostNo) (id : Number) (row : ℕ) (task : Task) → IsPutter task ⊎ Asking (Aims script.n) [] (attempt script host id row task)
+pub putter-or : (script : Script) (host : HostNo) (id : Number) (row : ℕ) (task : Task) → IsPutter task ⊎ Asking (Aims script.n) [] (attempt script host id row task)
 putter-or script host id row (tasks.Write object first from count) = inl tt
 putter-or script host id row (tasks.Rebuild bay) = inl tt
 putter-or script host id row (tasks.Read object first count) = inr (reads-put script id (parts_of script object first count))
@@ -223,13 +223,13 @@ all-in P x (y ∷ ys) all (inr i) = all-in P x ys all.1 i
 
 module _ (script : Script) (is : IsScript script) (earlier : List Call) (call : Call) (along : IsHistory script (call ∷ earlier)) (row : RowNo) (unit : ℕ) (below : row.0 < script.rows) (inside : unit + 1 < script.n) (id k : Number)
     (cell : Cell) (place : call.bay ≡ bay_of script.n row unit) (what : call.ask.what ≡ Put row id k cell) (done : IsDone call) where
-  abbrev At : BayNo
+  abbrev pub At : BayNo
   At = bay_of script.n row unit
 
-  abbrev Host : HostNo
+  abbrev pub Host : HostNo
   Host = call.ask.host
 
-  abbrev Calls : List Call
+  abbrev pub Calls : List Call
   Calls = calls_at script earlier Host
 
   of-row : row_of call.ask.what ≡ Some row
@@ -242,7 +242,7 @@ module _ (script : Script) (is : IsScript script) (earlier : List Call) (call : 
       both true y p q = q
       both false y p q = p
 
-  noted : HasNote id (slot_at script earlier At row).note
+  pub noted : HasNote id (slot_at script earlier At row).note
   noted = noted-has (slot_at script earlier At row).note id (noted-by (slot_at script earlier At row).note id (by (moved script is earlier call along.1 At row below)))
     where
       other : (x : Request) → call.ask.what ≡ x → row_of x ≡ None → ⊥
@@ -269,7 +269,7 @@ module _ (script : Script) (is : IsScript script) (earlier : List Call) (call : 
         (subst (λ (b : BayNo). MayAsk script.n h.hand.id (past).past b call.ask.what) place (may-next script.n h.hand.id (past).past steps (errand_of call) (past).keeps asked))
 
     -- its row is confirmed, for the slot was granted, and so claimed
-    confirmed : IsIn row (past_of Calls).confirmed
+    pub confirmed : IsIn row (past_of Calls).confirmed
     confirmed =
         let slot : phases.Slot = record { bay = At; row = row } in
         let granted : IsIn slot (past_of Calls).granted = subst (λ (slots : List phases.Slot). IsIn slot slots) (past).same.granted may-ask.3.granted in
@@ -278,7 +278,7 @@ module _ (script : Script) (is : IsScript script) (earlier : List Call) (call : 
         (all-in (λ (x : phases.Slot). IsIn x.row (past).past.confirmed) slot (past).past.claimed may-ask.3.confirmed claimed)
 
     -- it puts units
-    putter : IsPutter h.hand.task
+    pub putter : IsPutter h.hand.task
     putter = by (putter-or script Host h.hand.id (Now).row h.hand.task)
       where
         by : IsPutter h.hand.task ⊎ Asking (Aims script.n) [] (attempt script Host h.hand.id (Now).row h.hand.task) → IsPutter h.hand.task

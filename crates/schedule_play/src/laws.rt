@@ -3,7 +3,7 @@ ghost use Rattle.schedule_play.specs.Commits.{CommitsAreOfOwners};
 ghost use Rattle.schedule_play.specs.FirstForm.{FirstPlaysAreSerial, FirstPlaysKeepParity, FirstFormsAreFirst};
 ghost use Rattle.schedule_play.specs.Holding.{BlankNotesMend, UnitsAreOfWrites, AnsweredAreFree, HoldersKeepNotes, PuttersOwnRows, PutsAreOfOwners};
 ghost use Rattle.schedule_play.specs.Ids.{IdsAreApart};
-ghost use Rattle.schedule_play.specs.Laws.{OneIsMissing, AccessesAreCovered};
+ghost use Rattle.schedule_play.specs.Laws.{OneIsMissing, AccessesAreCovered, PutsAreCovered};
 ghost use Rattle.schedule_play.specs.Leftovers.{RefusedLeaveNothing};
 ghost use Rattle.schedule_play.specs.Lone.{LoneHostsAreDone};
 
@@ -96,4 +96,10 @@ pub fn puts_are_of_owners()
 /// put of its row's parity that was done.
 pub fn commits_are_of_owners()
     ensures { CommitsAreOfOwners }
+{}
+
+/// Puts are covered: where a write has put a unit of a row and the row's parity was not put since, the parity has no cell, or a
+/// note that came from that write and has the unit.
+pub fn puts_are_covered()
+    ensures { PutsAreCovered }
 {}
