@@ -43,7 +43,7 @@ use Rattle.schedule_play.proofs.BlankNotes.{blank_notes_mend}
 use Rattle.schedule_play.proofs.AnsweredFreeNotes.{Takes, note-came, granted-now, held-now, gone-now, empty-bare, seized-now}
 use Rattle.schedule_play.proofs.AnsweredFreeHands.{confirmed-late, Confirms, confirmed-now, own-ids, parity-claimed, claims-new, seizes-next, has-seized}
 
-happened-map : (P Q : Call → Type 0) → ((call : Call) → P call → Q call) → (calls : List Call) → Happened P calls → Happened Q calls
+pub happened-map : (P Q : Call → Type 0) → ((call : Call) → P call → Q call) → (calls : List Call) → Happened P calls → Happened Q calls
 happened-map P Q f [] h = h
 happened-map P Q f (call ∷ calls) (inl h) = inl (f call h)
 happened-map P Q f (call ∷ calls) (inr h) = inr (happened-map P Q f calls h)

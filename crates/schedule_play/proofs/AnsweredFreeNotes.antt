@@ -85,7 +85,7 @@ floor-of Fault h = no-way h
 floor-of Emptied h = no-way h
 floor-of Fitted h = no-way h
 
-claimed-id : (ask : Ask) (id : Number) (mask : ℕ) (old : Option Note) → (claimed_note ask id mask old).id ≡ id
+pub claimed-id : (ask : Ask) (id : Number) (mask : ℕ) (old : Option Note) → (claimed_note ask id mask old).id ≡ id
 claimed-id ask id mask None = refl
 claimed-id ask id mask (Some note) = refl
 

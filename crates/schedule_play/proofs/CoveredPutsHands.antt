@@ -95,7 +95,7 @@ nothing-put at row id [] none h = h
 nothing-put at row id (call ∷ calls) none (inl (place, n, cell, what)) = subst PutsNothing what none.0
 nothing-put at row id (call ∷ calls) none (inr h) = nothing-put at row id calls none.1 h
 
-no-unit : (mask unit : ℕ) → mask ≡ 0 → has_unit mask unit ≡ true → ⊥
+pub no-unit : (mask unit : ℕ) → mask ≡ 0 → has_unit mask unit ≡ true → ⊥
 no-unit mask unit none has =
     let zero_has : has_unit 0 unit ≡ true = subst (λ (m : ℕ). has_unit m unit ≡ true) none has in
     let part : 0 / 2 ^ unit ≡ 0 = zero-div (2 ^ unit) in

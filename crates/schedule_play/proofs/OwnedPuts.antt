@@ -203,7 +203,7 @@ putter-or script host id row (tasks.Lose bay) = inr tt
 putter-or script host id row (tasks.Fit bay) = inr tt
 
 -- a put that is done found a note with its id
-put-noted : (bay : Bay) (ask : Ask) (slot : Slot) (row : RowNo) (id k : Number) (cell : Cell) (what : Request) (reply : Reply) (left : Slot) → Does bay ask slot what reply left → what ≡ Put row id k cell → reply ≡ Done →
+pub put-noted : (bay : Bay) (ask : Ask) (slot : Slot) (row : RowNo) (id k : Number) (cell : Cell) (what : Request) (reply : Reply) (left : Slot) → Does bay ask slot what reply left → what ≡ Put row id k cell → reply ≡ Done →
     note_id slot.note id ≡ true
 put-noted bay ask slot row id k cell what reply left (Refuses r refused missing) is done = absurd (let bad : false ≡ true = ap is_refused (sym done) ∙ refused in cc)
 put-noted bay ask slot row id k cell what reply left (Closes there none) is done = absurd (cc)
@@ -216,7 +216,7 @@ put-noted bay ask slot row id k cell what reply left (Frees own) is done = absur
 put-noted bay ask slot row id k cell what reply left (Leaves free reader found) is done = absurd (cc)
 
 -- all of them are such, so one of them is
-all-in : {X : Type 0} (P : X → Type 0) (x : X) (xs : List X) → AllByRecursion P xs → IsIn x xs → P x
+pub all-in : {X : Type 0} (P : X → Type 0) (x : X) (xs : List X) → AllByRecursion P xs → IsIn x xs → P x
 all-in P x [] all i = absurd i
 all-in P x (y ∷ ys) all (inl same) = subst P same all.0
 all-in P x (y ∷ ys) all (inr i) = all-in P x ys all.1 i

@@ -78,10 +78,10 @@ walk-asking P phase f e es a calls may on off = (
 )
 
 -- the same request, and bay
-what-is : (call : Call) (e : Errand) → errand_of call ≡ e → call.ask.what ≡ e.request
+pub what-is : (call : Call) (e : Errand) → errand_of call ≡ e → call.ask.what ≡ e.request
 what-is call e is = ap (λ (x : Errand). x.request) is
 
-bay-is : (call : Call) (e : Errand) → errand_of call ≡ e → call.bay ≡ e.bay
+pub bay-is : (call : Call) (e : Errand) → errand_of call ≡ e → call.bay ≡ e.bay
 bay-is call e is = ap (λ (x : Errand). x.bay) is
 
 -- Replies. A claim that refuses wasn't granted
@@ -147,7 +147,7 @@ not-torn false false true e = absurd (cc)
 not-torn false false false e = inr (refl, refl)
 
 -- Units. On one bay stands one unit
-one-unit : (n : ℕ) (row : RowNo) (u v : ℕ) → u < n - 1 → v < n - 1 → bay_of n row u ≡ bay_of n row v → u ≡ v
+pub one-unit : (n : ℕ) (row : RowNo) (u v : ℕ) → u < n - 1 → v < n - 1 → bay_of n row u ≡ bay_of n row v → u ≡ v
 one-unit zero row u v hu hv e = absurd (omega arith)
 one-unit (suc zero) row u v hu hv e = absurd (omega arith)
 one-unit (suc (suc zero)) row u v hu hv e = omega arith
@@ -161,7 +161,7 @@ in-range first (suc count) u low high = by (first == u) refl (λ (apart : first 
     by true e later = inl (grind (arith, nat_tests))
     by false e later = let apart : first < u = grind (arith, nat_tests) in inr (later apart)
 
-in-units : (n u : ℕ) → u < n - 1 → IsIn u (units n)
+pub in-units : (n u : ℕ) → u < n - 1 → IsIn u (units n)
 in-units n u below = in-range 0 (n - 1) u (omega arith) (omega arith)
 
 -- a call that happened, and where
@@ -189,16 +189,16 @@ module _ (r : Rescue) where
   Frees calls s = Asking (FreesSound r) calls s
 
   -- Calls that claim nothing
-  abbrev NoClaim : Call → Type 0
+  abbrev pub NoClaim : Call → Type 0
   NoClaim call = (at : BayNo) → IsClaim at r.row call → ⊥
 
-  released-no-claim : (call : Call) → call.ask.what ≡ Release r.row r.id None → NoClaim call
+  pub released-no-claim : (call : Call) → call.ask.what ≡ Release r.row r.id None → NoClaim call
   released-no-claim call is at of = let both : Release r.row r.id None ≡ Claim r.row of.1 of.2 of.3 of.4 = sym is ∙ of.5 in absurd (cc)
 
-  confirmed-no-claim : (call : Call) → call.ask.what ≡ Confirm r.row r.id false → NoClaim call
+  pub confirmed-no-claim : (call : Call) → call.ask.what ≡ Confirm r.row r.id false → NoClaim call
   confirmed-no-claim call is at of = let both : Confirm r.row r.id false ≡ Claim r.row of.1 of.2 of.3 of.4 = sym is ∙ of.5 in absurd (cc)
 
-  abbrev Sound : List Call → Type 0
+  abbrev pub Sound : List Call → Type 0
   Sound calls = (note : Note) → HasSeized r.n r.row note calls → FoundSound r.n r.row note calls
 
   found-more : (note : Note) (calls : List Call) (call : Call) → NoClaim call → FoundSound r.n r.row note calls → FoundSound r.n r.row note (call ∷ calls)
@@ -217,7 +217,7 @@ module _ (r : Rescue) where
   sound-more calls call none s note (inl x) = absurd (none parity x.0)
   sound-more calls call none s note (inr h) = found-more note calls call none (s note h)
 
-  shows-more : (o : Option Grant) (calls : List Call) (call : Call) → (IsClaim parity r.row call → (grant : Grant) → grant_of call.answer.reply ≡ Some grant → o ≡ Some grant) → ShowsParity r.n r.row o calls →
+  pub shows-more : (o : Option Grant) (calls : List Call) (call : Call) → (IsClaim parity r.row call → (grant : Grant) → grant_of call.answer.reply ≡ Some grant → o ≡ Some grant) → ShowsParity r.n r.row o calls →
       ShowsParity r.n r.row o (call ∷ calls)
   shows-more o calls call first h c (inl same) of grant e =
       first (subst (IsClaim parity r.row) (sym same) of) grant (subst (λ (x : Call). grant_of x.answer.reply ≡ Some grant) (sym same) e)
@@ -298,14 +298,14 @@ module _ (r : Rescue) where
       by (Some grant) shows = seized-or grant shows (is_seized grant) refl
 
   -- Units. What the claims of one were answered
-  record Tells (missing : Option BayNo) (calls : List Call) (u : ℕ) (o : Option Grant) : Type 0 where
-    told : (call : Call) → IsIn call calls → IsClaim (bay_of r.n r.row u) r.row call → grant_of call.answer.reply ≡ o
-    gap : o ≡ None → missing ≡ Some (bay_of r.n r.row u)
+  pub record Tells (missing : Option BayNo) (calls : List Call) (u : ℕ) (o : Option Grant) : Type 0 where
+    pub told : (call : Call) → IsIn call calls → IsClaim (bay_of r.n r.row u) r.row call → grant_of call.answer.reply ≡ o
+    pub gap : o ≡ None → missing ≡ Some (bay_of r.n r.row u)
 
   abbrev Fresh : List Call → ℕ → Type 0
   Fresh calls u = (call : Call) → IsIn call calls → IsClaim (at_unit u) r.row call → ⊥
 
-  abbrev Got : Option BayNo → List Call → List ℕ → List ℕ → List (Option Grant) → Type 0
+  abbrev pub Got : Option BayNo → List Call → List ℕ → List ℕ → List (Option Grant) → Type 0
   Got missing calls us left [] = us ≡ left
   Got missing calls [] left (o ∷ gs) = ⊥
   Got missing calls (u ∷ us) left (o ∷ gs) = Tells missing calls u o × Got missing calls us left gs
@@ -329,7 +329,7 @@ module _ (r : Rescue) where
   range-apart first zero le = tt
   range-apart first (suc count) le = (range-other first (first + 1) count (omega arith) (omega arith), range-apart (first + 1) count (omega arith))
 
-  apart-units : Apart (units r.n)
+  pub apart-units : Apart (units r.n)
   apart-units = range-apart 0 (r.n - 1) (omega arith)
 
   got-head : (P : ℕ → Type 0) (missing : Option BayNo) (calls : List Call) (us left : List ℕ) (u : ℕ) (gs : List (Option Grant)) → Got missing calls us (u ∷ left) gs → AllByRecursion P us → P u
@@ -371,14 +371,14 @@ module _ (r : Rescue) where
       by c (inr i) of = all.0 c i of
 
   -- what is known while the units are claimed
-  record Finding (left : List ℕ) (calls : List Call) (taken : Taken) : Type 0 where
-    shows : ShowsParity r.n r.row taken.row.parity calls
-    got : Got taken.missing calls (units r.n) left taken.row.wanted
-    fresh : AllByRecursion (λ v. Fresh calls v) left
-    aside : AllByRecursion (Aside r.n r.row) left
-    apart : Apart left
+  pub record Finding (left : List ℕ) (calls : List Call) (taken : Taken) : Type 0 where
+    pub shows : ShowsParity r.n r.row taken.row.parity calls
+    pub got : Got taken.missing calls (units r.n) left taken.row.wanted
+    pub fresh : AllByRecursion (λ v. Fresh calls v) left
+    pub aside : AllByRecursion (Aside r.n r.row) left
+    pub apart : Apart left
 
-  kept : (at : BayNo) (taken b : Taken) (c : Option Cause) (o : Option Grant) → option_map (with_grant with_wanted taken at) (unless c o) ≡ Some b → (c ≡ None) × (with_grant with_wanted taken at o ≡ b)
+  pub kept : (at : BayNo) (taken b : Taken) (c : Option Cause) (o : Option Grant) → option_map (with_grant with_wanted taken at) (unless c o) ≡ Some b → (c ≡ None) × (with_grant with_wanted taken at o ≡ b)
   kept at taken b (Some cause) o e = absurd (cc)
   kept at taken b None o e = (refl, cc)
 
@@ -403,7 +403,7 @@ module _ (r : Rescue) where
     apart = s.apart.1;
   }
 
-  finding-more : (u : ℕ) (us : List ℕ) (calls : List Call) (call : Call) (taken b : Taken) → Finding (u ∷ us) calls taken → errand_of call ≡ claim r.id r.row Seize 0 true (at_unit u) →
+  pub finding-more : (u : ℕ) (us : List ℕ) (calls : List Call) (call : Call) (taken b : Taken) → Finding (u ∷ us) calls taken → errand_of call ≡ claim r.id r.row Seize 0 true (at_unit u) →
       fits call.ask.what call.answer.reply ≡ true →
       option_map (with_grant with_wanted taken (at_unit u)) (unless (refusal None taken.missing (at_unit u) call.answer.reply) (grant_of call.answer.reply)) ≡ Some b → Finding us (call ∷ calls) b
   finding-more u us calls call taken b s is fit e =
@@ -414,13 +414,13 @@ module _ (r : Rescue) where
       (λ none. gap-agrees taken.missing (at_unit u) call.answer.reply (subst (λ (w : Request). fits w call.answer.reply ≡ true) what fit) k.0 none))
 
   -- Verdicts. Where all units were claimed
-  gap-at : (missing : Option BayNo) (calls : List Call) (us : List ℕ) (gs : List (Option Grant)) (unit : ℕ) → Got missing calls us [] gs → missing_in (zip us gs) ≡ Some unit → missing ≡ Some (at_unit unit)
+  pub gap-at : (missing : Option BayNo) (calls : List Call) (us : List ℕ) (gs : List (Option Grant)) (unit : ℕ) → Got missing calls us [] gs → missing_in (zip us gs) ≡ Some unit → missing ≡ Some (at_unit unit)
   gap-at missing calls [] gs unit h e = absurd (cc)
   gap-at missing calls (u ∷ us) [] unit h e = absurd (cc)
   gap-at missing calls (u ∷ us) (Some grant ∷ gs) unit h e = gap-at missing calls us gs unit h.1 e
   gap-at missing calls (u ∷ us) (None ∷ gs) unit h e = let same : u ≡ unit = cc in h.0.gap refl ∙ ap (λ v. Some (at_unit v)) same
 
-  gap-below : (us : List ℕ) (gs : List (Option Grant)) (unit : ℕ) → AllByRecursion (λ u. u < r.n - 1) us → missing_in (zip us gs) ≡ Some unit → unit < r.n - 1
+  pub gap-below : (us : List ℕ) (gs : List (Option Grant)) (unit : ℕ) → AllByRecursion (λ u. u < r.n - 1) us → missing_in (zip us gs) ≡ Some unit → unit < r.n - 1
   gap-below [] gs unit all e = absurd (cc)
   gap-below (u ∷ us) [] unit all e = absurd (cc)
   gap-below (u ∷ us) (Some grant ∷ gs) unit all e = gap-below us gs unit all.1 e
@@ -485,7 +485,7 @@ module _ (r : Rescue) where
           let clash : true ≡ false = sym put ∙ aside.1 in
           absurd (cc)
 
-  leaves-sound : (calls : List Call) (taken : Taken) → Finding [] calls taken → verdict r taken.row ≡ Leaves → Sound calls
+  pub leaves-sound : (calls : List Call) (taken : Taken) → Finding [] calls taken → verdict r taken.row ≡ Leaves → Sound calls
   leaves-sound calls taken s leaves note h =
       let p = parity-seized taken.row.parity calls note s.shows h in
       let noted : seized_note taken.row.parity ≡ Some note = ap seized_note p.1 ∙ p.2 in
@@ -541,7 +541,7 @@ module _ (r : Rescue) where
       (shows-unit u taken.row.parity calls call s.aside.0 (bay-is call (claim r.id r.row Seize 0 true (bay_of r.n r.row u)) is) s.shows))
 
   -- the parity's claim is the first call
-  fresh-after : (call : Call) → call.bay ≡ parity → (us : List ℕ) → AllByRecursion (Aside r.n r.row) us → AllByRecursion (λ v. Fresh (call ∷ []) v) us
+  pub fresh-after : (call : Call) → call.bay ≡ parity → (us : List ℕ) → AllByRecursion (Aside r.n r.row) us → AllByRecursion (λ v. Fresh (call ∷ []) v) us
   fresh-after call at [] all = tt
   fresh-after call at (v ∷ us) all = (by, fresh-after call at us all.1)
     where
@@ -564,14 +564,14 @@ module _ (r : Rescue) where
       by None = operator (r.host.0 == 0)
 
   -- the first reply gives the parity, and no unit yet
-  taken-parity : (at : BayNo) (taken b : Taken) (c : Option Cause) (o : Option Grant) → option_map (with_grant with_parity taken at) (unless c o) ≡ Some b → (o ≡ b.row.parity) × (taken.row.wanted ≡ b.row.wanted)
+  pub taken-parity : (at : BayNo) (taken b : Taken) (c : Option Cause) (o : Option Grant) → option_map (with_grant with_parity taken at) (unless c o) ≡ Some b → (o ≡ b.row.parity) × (taken.row.wanted ≡ b.row.wanted)
   taken-parity at taken b (Some cause) o e = absurd (cc)
   taken-parity at taken b None None e =
       let same : with_grant with_parity taken at None ≡ b = cc in (ap (λ (t : Taken). t.row.parity) same, ap (λ (t : Taken). t.row.wanted) same)
   taken-parity at taken b None (Some grant) e =
       let same : with_grant with_parity taken at (Some grant) ≡ b = cc in (ap (λ (t : Taken). t.row.parity) same, ap (λ (t : Taken). t.row.wanted) same)
 
-  none-yet : (o : Option Grant) → ShowsParity r.n r.row o []
+  pub none-yet : (o : Option Grant) → ShowsParity r.n r.row o []
   none-yet o c i of grant e = absurd i
 
   pub recoveries-free : Asking (FreesSound r) [] (recover_steps r)

@@ -209,7 +209,7 @@ pub record RecoverAsks (r : Rescue) (calls : List Call) (e : Errand) : Type 0 wh
   pub frees : (row : RowNo) (id : Number) (n : Option Number) → e.request ≡ Release row id n → (row ≡ r.row) × (e.bay ≡ parity_bay r.n r.row → MayFree r.n r.row calls)
 
 -- a claim that doesn't refuse was granted, or its slot is missing
-answers : (missing : Option BayNo) (bay : BayNo) (reply : Reply) → fits_claim Seize true reply ≡ true → refusal None missing bay reply ≡ None → IsSome (grant_of reply) ⊎ ((floor : Number) × (reply ≡ Missing floor))
+pub answers : (missing : Option BayNo) (bay : BayNo) (reply : Reply) → fits_claim Seize true reply ≡ true → refusal None missing bay reply ≡ None → IsSome (grant_of reply) ⊎ ((floor : Number) × (reply ≡ Missing floor))
 answers missing bay (Granted cell read_no write_no last life seized) fit e = inl refl
 answers missing bay (Missing floor) fit e = inr (floor, refl)
 answers missing bay (Busy holder) fit e = absurd (cc)

@@ -3,7 +3,7 @@ ghost use Rattle.schedule_play.specs.Commits.{CommitsAreOfOwners};
 ghost use Rattle.schedule_play.specs.FirstForm.{FirstPlaysAreSerial, FirstPlaysKeepParity, FirstFormsAreFirst};
 ghost use Rattle.schedule_play.specs.Holding.{BlankNotesMend, UnitsAreOfWrites, AnsweredAreFree, HoldersKeepNotes, PuttersOwnRows, PutsAreOfOwners};
 ghost use Rattle.schedule_play.specs.Ids.{IdsAreApart};
-ghost use Rattle.schedule_play.specs.Laws.{OneIsMissing, AccessesAreCovered, PutsAreCovered};
+ghost use Rattle.schedule_play.specs.Laws.{OneIsMissing, AccessesAreCovered, PutsAreCovered, LostBlocksAreTorn};
 ghost use Rattle.schedule_play.specs.Leftovers.{RefusedLeaveNothing};
 ghost use Rattle.schedule_play.specs.Lone.{LoneHostsAreDone};
 
@@ -102,4 +102,11 @@ pub fn commits_are_of_owners()
 /// note that came from that write and has the unit.
 pub fn puts_are_covered()
     ensures { PutsAreCovered }
+{}
+
+/// Lost blocks are named rightly: after every history of a script a recovery that has ended names a unit lost exactly where its
+/// calls found that unit missing, and the row torn; and then the note that tore it came from a write that has not put the parity,
+/// and that was to put this unit or has put another one of the row.
+pub fn lost_blocks_are_torn()
+    ensures { LostBlocksAreTorn }
 {}
