@@ -68,7 +68,7 @@ without-parts (Ok parts) fault is ok = cc
 without-parts (Err other) fault is ok = let bad : false ≡ true = ok in cc
 
 -- a job that is not to stop does not
-goes-on : (quit : Option ℕ) (asked : ℕ) → quit ≡ None → stops_at quit asked ≡ true → ⊥
+pub goes-on : (quit : Option ℕ) (asked : ℕ) → quit ≡ None → stops_at quit asked ≡ true → ⊥
 goes-on None asked none e = cc
 goes-on (Some k) asked none e = cc
 
@@ -324,7 +324,7 @@ module _ (script : Script) (host : HostNo) where
       work-stands call fit p p.work w.sound w.work refl (was-asked call fit p.clock call.ask.moment (work_errand p.work) asked)
   call-stands earlier call next false at w = w
 
-  history-stands : (history : List Call) → IsHistory script history → StandsWell (progress_at script host history)
+  pub history-stands : (history : List Call) → IsHistory script history → StandsWell (progress_at script host history)
   history-stands [] h = start-stands (jobs_of script host) (before_start script host) refl (record { right = tt })
   history-stands (call ∷ earlier) h = call-stands earlier call h.1 (call.ask.host.0 == host.0) refl (history-stands earlier h.0)
 

@@ -26,5 +26,6 @@ pub mod CompleteReads
 pub mod CompleteWrites
 pub mod CompleteHistory
 pub mod Attempting
+pub mod CompleteSteps
 pub mod PhasedHands
 pub mod HandSteps

@@ -1,8 +1,9 @@
 -- Jobs that meet no refusal are done.
-use Rattle.std.specs.Prelude.{◌≡◌, ◌^◌, ◌≤◌, false, List, None, IsOk}
+use Rattle.std.specs.Prelude.{◌≡◌, ◌⊎◌, ◌^◌, ◌≤◌, false, List, [], ◌∷◌, ◌++◌, None, IsOk}
 use Rattle.std.specs.List.{AllByRecursion}
 use Rattle.raid_base.specs.declared.numbers.HostNo.{HostNo}
 use Rattle.raid_base.specs.declared.messages.Call.{Call}
+use Rattle.raid_base.specs.declared.jobs.Job.{Job}
 use Rattle.raid_base.specs.declared.jobs.Task.{Task}
 use Rattle.raid_base.specs.declared.jobs.Task.TheVariants as tasks
 use Rattle.raid_base.specs.declared.jobs.JobEnd.{JobEnd}
@@ -12,9 +13,9 @@ use Rattle.script_text.specs.Script.{Script}
 use Rattle.script_text.specs.Ranges.{IsScript}
 use Rattle.script_text.specs.Weights.{total}
 use Rattle.host_engine.specs.Plain.{task_parts}
-use Rattle.host_engine.specs.Progress.{Ending}
+use Rattle.host_engine.specs.Progress.{Ending, Progress}
 use Rattle.host_engine.specs.Causes.{IsReadOrWrite}
-use Rattle.host_engine.specs.History.{IsHistory, endings_at}
+use Rattle.host_engine.specs.History.{IsHistory, progress_at, endings_at}
 
 -- no reply among these calls refuses
 abbrev pub AreUnrefused : List Call → Type 0
@@ -47,3 +48,38 @@ UnrefusedAreDone script history = (host : HostNo) → AllByRecursion (IsDoneUnre
 -- So it is in every history.
 abbrev pub UnrefusedJobsAreDone : Type 0
 UnrefusedJobsAreDone = (script : Script) (history : List Call) → IsScript script → total script ≤ 2 ^ 20 → IsHistory script history → UnrefusedAreDone script history
+
+-- Attempt by attempt. After its call an attempt is under way
+pub record IsUnderWay (before now : Progress) (call : Call) : Type 0 where
+  pub endings : now.endings ≡ before.endings
+  pub tries : now.tries ≡ before.tries
+  pub calls : now.calls ≡ call ∷ before.calls
+
+-- or its job is done with it; jobs behind that one may have ended without a request
+pub record IsDoneWith (before now : Progress) (call : Call) : Type 0 where
+  pub ending : Ending
+  pub later : List Ending
+  pub endings : now.endings ≡ before.endings ++ ending ∷ later
+  pub tries : ending.tries ≡ before.tries
+  pub calls : ending.calls ≡ call ∷ before.calls
+  pub done : IsDoneBy ending.job.task ending.ended
+
+-- the first of these jobs is a read or a write that has parts, and its host is not to stop in it
+abbrev pub CanBeDone : Script → List Job → Type 0
+CanBeDone script [] = ⊥
+CanBeDone script (job ∷ jobs) = IsReadOrWrite job.task × (job.quit ≡ None) × IsOk (task_parts script job.task)
+
+-- An attempt of such a job that has met no refusal goes on, or its job is done with it: it is not tried again.
+abbrev pub GoesOnUnrefused : Script → HostNo → List Call → Call → Type 0
+GoesOnUnrefused script host earlier call =
+    CanBeDone script (progress_at script host earlier).jobs → AreUnrefused (call ∷ (progress_at script host earlier).calls) →
+    IsUnderWay (progress_at script host earlier) (progress_at script host (call ∷ earlier)) call
+    ⊎ IsDoneWith (progress_at script host earlier) (progress_at script host (call ∷ earlier)) call
+
+-- So it is with each call of a history.
+abbrev pub UnrefusedGoOn : Script → List Call → Type 0
+UnrefusedGoOn script [] = Unit {0}
+UnrefusedGoOn script (call ∷ earlier) = UnrefusedGoOn script earlier × GoesOnUnrefused script call.ask.host earlier call
+
+abbrev pub UnrefusedAttemptsGoOn : Type 0
+UnrefusedAttemptsGoOn = (script : Script) (history : List Call) → IsScript script → total script ≤ 2 ^ 20 → IsHistory script history → UnrefusedGoOn script history

@@ -3,7 +3,7 @@ ghost use Rattle.host_engine.specs.HostLaws.{RequestsAreBounded, CausesAreMet};
 ghost use Rattle.host_engine.specs.Endings.{EndingsAreFilled};
 ghost use Rattle.host_engine.specs.Quotas.{RequestsKeepQuotas, TotalsCoverRequests};
 ghost use Rattle.host_engine.specs.Smallness.{NumbersStaySmall};
-ghost use Rattle.host_engine.specs.Completeness.{UnrefusedJobsAreDone};
+ghost use Rattle.host_engine.specs.Completeness.{UnrefusedJobsAreDone, UnrefusedAttemptsGoOn};
 ghost use Rattle.host_engine.specs.Hands.{HandsHoldAttempts, HandsKeepPhases};
 
 /// Along every history of a script each host has requests enough for what it has left to do: only hosts of the script
@@ -46,6 +46,12 @@ pub fn numbers_stay_small()
 /// stop in it, is done where its last attempt met no refusal.
 pub fn unrefused_jobs_are_done()
     ensures { UnrefusedJobsAreDone }
+{}
+
+/// And such a job is not tried again: after a call that is not refused, as none before it in its attempt was, the attempt
+/// is under way, or the job is done with it.
+pub fn unrefused_attempts_go_on()
+    ensures { UnrefusedAttemptsGoOn }
 {}
 
 /// After every call of a history what a host has in hand is what is left of an attempt of its job, with an id of its own,
