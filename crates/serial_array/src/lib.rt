@@ -4,6 +4,7 @@
 #![tactic(auto)]
 
 mod blocks;
+pub mod laws;
 
 pub use blocks::SerialArray;
 pub use raid_base::{Content, Name, NoMemory};
