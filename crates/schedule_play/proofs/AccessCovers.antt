@@ -114,7 +114,7 @@ done-read Lose standing n free h = absurd (let bad : None ≡ Some n = h in cc)
 done-read Fit standing n free h = absurd (let bad : None ≡ Some n = h in cc)
 
 -- under locks nothing but a release that was done is a read
-lock-read : (what : Request) (reply : Reply) (n : Number) → read_of Lock what reply ≡ Some n → reply ≡ Done
+pub lock-read : (what : Request) (reply : Reply) (n : Number) → read_of Lock what reply ≡ Some n → reply ≡ Done
 lock-read (Release row id m) Done n h = refl
 lock-read (Release row id m) (Granted cell read_no write_no last life seized) n h = absurd (let bad : None ≡ Some n = h in cc)
 lock-read (Release row id m) (Busy holder) n h = absurd (let bad : None ≡ Some n = h in cc)
@@ -204,7 +204,7 @@ module _ (bay after : Bay) (row : RowNo) (ask : Ask) (reply : Reply) (up : bay.h
     now-written n (Passed same is e) h = absurd (let bad : true ≡ false = sym mine ∙ is in cc)
     now-written n (Bared k same is e z l) h = absurd (let bad : true ≡ false = sym mine ∙ is in cc)
 
-all-map : (P Q : Number → Type 0) (ns : List Number) → ((n : Number) → P n → Q n) → AllByRecursion P ns → AllByRecursion Q ns
+pub all-map : (P Q : Number → Type 0) (ns : List Number) → ((n : Number) → P n → Q n) → AllByRecursion P ns → AllByRecursion Q ns
 all-map P Q [] f h = tt
 all-map P Q (n ∷ ns) f h = (f n h.0, all-map P Q ns f h.1)
 
@@ -212,19 +212,19 @@ all-with : (P : Number → Type 0) (o : Option Number) (ns : List Number) → ((
 all-with P None ns h all = all
 all-with P (Some n) ns h all = (h n refl, all)
 
-all-if : (P : Number → Type 0) (here : Bool) (o : Option Number) (ns : List Number) → (here ≡ true → (n : Number) → o ≡ Some n → P n) → AllByRecursion P ns →
+pub all-if : (P : Number → Type 0) (here : Bool) (o : Option Number) (ns : List Number) → (here ≡ true → (n : Number) → o ≡ Some n → P n) → AllByRecursion P ns →
     AllByRecursion P (if here then with_some o ns else ns)
 all-if P true o ns h all = all-with P o ns (h refl) all
 all-if P false o ns h all = all
 
 module _ (script : Script) (is : IsScript script) (at : BayNo) (row : RowNo) (below : row.0 < script.rows) where
-  record CoversAs (now : Bay) (rs ws : List Number) : Type 0 where
-    mode : now.mode ≡ script.mode
-    caps : IsCapped now row
-    read : AllByRecursion (CoversRead now row) rs
-    written : AllByRecursion (CoversWrite now row) ws
+  pub record CoversAs (now : Bay) (rs ws : List Number) : Type 0 where
+    pub mode : now.mode ≡ script.mode
+    pub caps : IsCapped now row
+    pub read : AllByRecursion (CoversRead now row) rs
+    pub written : AllByRecursion (CoversWrite now row) ws
 
-  abbrev Covers : List Call → Type 0
+  abbrev pub Covers : List Call → Type 0
   Covers history = CoversAs (bay_at script at history) (reads script at row history) (writes at row history)
 
   module _ (earlier : List Call) (call : Call) (next : IsNext script earlier call) (s : AllApart script is earlier) (c : Covers earlier) where
@@ -312,7 +312,7 @@ module _ (script : Script) (is : IsScript script) (at : BayNo) (row : RowNo) (be
     covers-next : Covers (call ∷ earlier)
     covers-next = covered (call.bay.0 == at.0) refl
 
-  covers-all : (history : List Call) → IsHistory script history → Covers history
+  pub covers-all : (history : List Call) → IsHistory script history → Covers history
   covers-all [] h = record {
     mode = refl;
     caps = record {

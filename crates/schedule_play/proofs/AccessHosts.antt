@@ -81,11 +81,11 @@ none-with host id seen above mine (call ∷ calls) owns lows =
     (λ is. let same : call.ask.host.0 ≡ host.0 = sym (owns.0 id is) ∙ mine in let low = lows.0 same id is in absurd (omega (arith, low, above)))
     (none-with host id seen above mine calls owns.1 lows.1)
 
-note-covers : (seen : Number) (o : Option Note) → seen.0 ≤ (sees_note seen o).0
+pub note-covers : (seen : Number) (o : Option Note) → seen.0 ≤ (sees_note seen o).0
 note-covers seen None = omega arith
 note-covers seen (Some note) = omega arith
 
-reply-covers : (seen : Number) (r : Reply) → seen.0 ≤ (sees seen r).0
+pub reply-covers : (seen : Number) (r : Reply) → seen.0 ≤ (sees seen r).0
 reply-covers seen (Granted cell read_no write_no last life seized) = let more = note-covers (greater seen (greater read_no write_no)) seized in omega (arith, more)
 reply-covers seen (Late above) = omega arith
 reply-covers seen (Missing floor) = omega arith
@@ -123,7 +123,7 @@ module _ (script : Script) (host : HostNo) (few : host.0 < 16) where
   drawn-covers seen (Ok n) e = let h = draws-above host seen n few e in let above : seen.0 < n.0 = h.above in omega (arith, above)
   drawn-covers seen (Err spent) e = omega arith
 
-  settled-covers : (seen : Number) (s : Steps Finish) → seen.0 ≤ (settled host seen s).seen.0
+  pub settled-covers : (seen : Number) (s : Steps Finish) → seen.0 ≤ (settled host seen s).seen.0
   settled-covers seen (Asks e t c k) = omega arith
   settled-covers seen (Draws k) =
       let first = drawn-covers seen (draw host seen) refl in

@@ -46,7 +46,7 @@ named-own (Some note) id e = let same : note.id.0 ≡ id.0 = grind (arith, nat_t
 no-way : {X : Type 0} → false ≡ true → X
 no-way h = absurd (cc)
 
-refused-grants : {X : Type 0} (r : Reply) → is_refused r ≡ true → IsSome (grant_of r) → X
+pub refused-grants : {X : Type 0} (r : Reply) → is_refused r ≡ true → IsSome (grant_of r) → X
 refused-grants (Granted cell read_no write_no last life seized) refused granted = no-way refused
 refused-grants (Busy holder) refused granted = no-way granted
 refused-grants (Late above) refused granted = no-way granted

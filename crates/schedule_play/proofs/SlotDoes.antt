@@ -1,5 +1,5 @@
 -- All that the slot rule may do to a slot that is asked, case by case.
-use Rattle.std.proofs.Common.{◌≡◌, ◌⊎◌, inl, inr, refl, sym, ap, subst, ◌∙◌, ℕ, ◌<◌, ◌≤◌, max, Bool, true, false, not, ◌&&◌, if◌then◌else◌, List, [], find, Option, Some, None, IsSome, is_some, nat_lt, arith}
+use Rattle.std.proofs.Common.{◌≡◌, ◌⊎◌, inl, inr, refl, sym, ap, subst, ◌∙◌, ℕ, ◌<◌, ◌≤◌, max, Bool, true, false, not, ◌&&◌, if◌then◌else◌, List, [], ◌∷◌, find, Option, Some, None, IsSome, is_some, nat_lt, arith}
 use Rattle.std.proofs.lemmas.Bool.Decides.{nat_tests}
 use Rattle.raid_base.specs.declared.numbers.RowNo.{RowNo}
 use Rattle.raid_base.specs.declared.numbers.Number.{Number}
@@ -25,7 +25,7 @@ use Rattle.slot_rules.specs.Laws.{is_refused, claimed_note}
 abbrev pub IsGone : Bay → Slot → Type 0
 IsGone bay slot = (bay.empty ≡ true) ⊎ (slot.cell ≡ None)
 
--- a claim that was granted. It found a cell, unless it is to mend, and no note, unless it seizes
+-- a claim that was granted. It found a cell, unless it is to mend, and no note, unless it seizes, and it leaves no reader
 pub record Claims (bay : Bay) (ask : Ask) (slot : Slot) (id : Number) (how : How) (mask : ℕ) (want : Bool) (r : Reply) (after : Slot) : Type 0 where
   pub there : bay.empty ≡ false
   pub cell : IsSome slot.cell ⊎ (how ≡ Mend)
@@ -33,6 +33,7 @@ pub record Claims (bay : Bay) (ask : Ask) (slot : Slot) (id : Number) (how : How
   pub late : how ≡ Plain → bay.mode ≡ Order → max slot.read_no.0 slot.write_no.0 < id.0
   pub reply : r ≡ granted bay slot want slot.note
   pub readers : List Reader
+  pub alone : readers ≡ []
   pub left : after ≡ record slot { note = Some (claimed_note ask id mask slot.note); readers = readers }
 
 -- a share that was granted
@@ -47,6 +48,7 @@ pub record Shares (bay : Bay) (slot : Slot) (id : Number) (want : Bool) (r : Rep
   pub last_kept : after.last ≡ slot.last
   pub write_kept : after.write_no ≡ slot.write_no
   pub read : (after.read_no ≡ slot.read_no) ⊎ ((bay.mode ≡ Order) × (after.read_no ≡ greater slot.read_no id))
+  pub beside : (note : Note) → slot.note ≡ Some note → after.readers ≡ slot.readers
 
 pub data Does (bay : Bay) (ask : Ask) (slot : Slot) : Request → Reply → Slot → Type 0 where
   -- a refusal leaves the slot
@@ -62,6 +64,16 @@ pub data Does (bay : Bay) (ask : Ask) (slot : Slot) : Request → Reply → Slot
   Frees : {row : RowNo} {id : Number} {n : Option Number} (own : note_id slot.note id ≡ true) → Does bay ask slot (Release row id n) Done (record slot { note = None })
   Leaves : {row : RowNo} {id : Number} {n : Option Number} (free : note_id slot.note id ≡ false) (reader : Reader) (found : find (is_reader id) slot.readers ≡ Some reader) →
       Does bay ask slot (Release row id n) Done (record slot { read_no = read_at slot n; readers = other_readers id slot.readers })
+
+-- where no other reader is found none is left
+none-others : (id : Number) (xs : List Reader) → find (λ reader. not (is_reader id reader)) xs ≡ None → other_readers id xs ≡ []
+none-others id [] e = refl
+none-others id (x ∷ xs) e = by (not (is_reader id x)) e (none-others id xs)
+  where
+    by : (b : Bool) → (if b then Some x else find (λ reader. not (is_reader id reader)) xs) ≡ None → (find (λ reader. not (is_reader id reader)) xs ≡ None → other_readers id xs ≡ []) →
+        (if b then x ∷ other_readers id xs else other_readers id xs) ≡ []
+    by true found rest = absurd (cc)
+    by false found rest = rest found
 
 module _ (bay : Bay) (ask : Ask) (slot : Slot) where
   abbrev As : Request → SlotOutcome → Type 0
@@ -120,6 +132,7 @@ module _ (bay : Bay) (ask : Ask) (slot : Slot) where
       last_kept = refl;
       write_kept = refl;
       read = inl refl;
+      beside = λ note is. absurd (cc);
     }))
 
     share-unnoted : bay.mode ≡ Order → ((note : Note) → slot.note ≡ Some note → id.0 ≤ note.origin.0) → As (Share row id want) (share_unnoted bay slot id want fails)
@@ -136,6 +149,7 @@ module _ (bay : Bay) (ask : Ask) (slot : Slot) where
           last_kept = refl;
           write_kept = refl;
           read = inr (order, refl);
+          beside = λ note is. refl;
         })))
 
     share-orders : (note : Option Note) → bay.mode ≡ Order → slot.note ≡ note → As (Share row id want) (share_order bay slot id want fails note)
@@ -157,8 +171,9 @@ module _ (bay : Bay) (ask : Ask) (slot : Slot) where
     late-plain : (how : How) → is_late how bay.mode id slot ≡ false → how ≡ Plain → bay.mode ≡ Order → max slot.read_no.0 slot.write_no.0 < id.0
     late-plain how e plain order = let early : is_late Plain Order id slot ≡ false = sym (ap (λ (h : How). is_late h bay.mode id slot) plain ∙ ap (λ (m : Mode). is_late Plain m id slot) order) ∙ e in grind (arith, nat_tests)
 
-    claim-frees : (how : How) → bay.empty ≡ false → IsSome slot.cell ⊎ (how ≡ Mend) → slot.note ≡ None → As (Claim row id how mask want) (claim_free bay slot ask id how mask want fails)
-    claim-frees how here cell free = as-if (Claim row id how mask want) (keeps slot (Late (greater slot.read_no slot.write_no))) (reads want fails slot (claim_granted bay slot ask id mask want)) (is_late how bay.mode id slot)
+    claim-frees : (how : How) → bay.empty ≡ false → IsSome slot.cell ⊎ (how ≡ Mend) → slot.note ≡ None → find (λ reader. not (is_reader id reader)) slot.readers ≡ None →
+        As (Claim row id how mask want) (claim_free bay slot ask id how mask want fails)
+    claim-frees how here cell free lone = as-if (Claim row id how mask want) (keeps slot (Late (greater slot.read_no slot.write_no))) (reads want fails slot (claim_granted bay slot ask id mask want)) (is_late how bay.mode id slot)
         (λ e. Refuses (Late (greater slot.read_no slot.write_no)) refl (λ floor bad. absurd (cc)))
         (λ e. as-read (Claim row id how mask want) want fails (claim_granted bay slot ask id mask want) (Grants (record {
           there = here;
@@ -167,22 +182,23 @@ module _ (bay : Bay) (ask : Ask) (slot : Slot) where
           late = late-plain how e;
           reply = ap (granted bay slot want) (sym free);
           readers = other_readers id slot.readers;
+          alone = none-others id slot.readers lone;
           left = ap (λ (o : Option Note). record slot { note = Some (claimed_note ask id mask o); readers = other_readers id slot.readers }) (sym free);
         })))
 
     claim-noted : (how : How) → bay.empty ≡ false → IsSome slot.cell ⊎ (how ≡ Mend) → (note : Option Note) (other : Option Reader) → slot.note ≡ note →
-        As (Claim row id how mask want) (claim_noted bay slot ask id how mask want fails note other)
-    claim-noted how here cell (Some note) other e = Refuses (Busy note) refl (λ floor bad. absurd (cc))
-    claim-noted how here cell None (Some reader) e = Refuses (Busy (reader_note reader)) refl (λ floor bad. absurd (cc))
-    claim-noted how here cell None None e = claim-frees how here cell e
+        find (λ reader. not (is_reader id reader)) slot.readers ≡ other → As (Claim row id how mask want) (claim_noted bay slot ask id how mask want fails note other)
+    claim-noted how here cell (Some note) other e lone = Refuses (Busy note) refl (λ floor bad. absurd (cc))
+    claim-noted how here cell None (Some reader) e lone = Refuses (Busy (reader_note reader)) refl (λ floor bad. absurd (cc))
+    claim-noted how here cell None None e lone = claim-frees how here cell e lone
 
     claim-plain : (floor : Option Number) → missing_floor bay slot ≡ floor → As (Claim row id Plain mask want) (claim_at bay slot ask id Plain mask want fails floor)
     claim-plain (Some floor) e = Refuses (Missing floor) refl (λ n is. gone floor e)
-    claim-plain None e = claim-noted Plain (there e).0 (inl (there e).1) slot.note (find (λ reader. not (is_reader id reader)) slot.readers) refl
+    claim-plain None e = claim-noted Plain (there e).0 (inl (there e).1) slot.note (find (λ reader. not (is_reader id reader)) slot.readers) refl refl
 
     claim-mend : (b : Bool) → bay.empty ≡ b → As (Claim row id Mend mask want) (claim_at bay slot ask id Mend mask want fails (if b then Some bay.high else None))
     claim-mend true e = Refuses (Missing bay.high) refl (λ n is. inl e)
-    claim-mend false e = claim-noted Mend e (inr refl) slot.note (find (λ reader. not (is_reader id reader)) slot.readers) refl
+    claim-mend false e = claim-noted Mend e (inr refl) slot.note (find (λ reader. not (is_reader id reader)) slot.readers) refl refl
 
     seize-grants : bay.empty ≡ false → IsSome slot.cell → (note : Option Note) → slot.note ≡ note → As (Claim row id Seize mask want) (seize_granted bay slot ask id mask want note)
     seize-grants here cell None e = Grants (record {
@@ -192,6 +208,7 @@ module _ (bay : Bay) (ask : Ask) (slot : Slot) where
       late = λ bad. absurd (cc);
       reply = ap (granted bay slot want) (sym e);
       readers = [];
+      alone = refl;
       left = ap (λ (o : Option Note). record slot { note = Some (claimed_note ask id mask o); readers = [] }) (sym e);
     })
     seize-grants here cell (Some note) e = Grants (record {
@@ -201,6 +218,7 @@ module _ (bay : Bay) (ask : Ask) (slot : Slot) where
       late = λ bad. absurd (cc);
       reply = ap (granted bay slot want) (sym e);
       readers = [];
+      alone = refl;
       left = ap (λ (o : Option Note). record slot { note = Some (claimed_note ask id mask o); readers = [] }) (sym e);
     })
 

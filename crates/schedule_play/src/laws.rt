@@ -3,7 +3,7 @@ ghost use Rattle.schedule_play.specs.Commits.{CommitsAreOfOwners};
 ghost use Rattle.schedule_play.specs.FirstForm.{FirstPlaysAreSerial, FirstPlaysKeepParity, FirstFormsAreFirst};
 ghost use Rattle.schedule_play.specs.Holding.{BlankNotesMend, UnitsAreOfWrites, AnsweredAreFree, HoldersKeepNotes, PuttersOwnRows, PutsAreOfOwners};
 ghost use Rattle.schedule_play.specs.Ids.{IdsAreApart};
-ghost use Rattle.schedule_play.specs.Laws.{OneIsMissing, AccessesAreCovered, PutsAreCovered, LostBlocksAreTorn};
+ghost use Rattle.schedule_play.specs.Laws.{OneIsMissing, AccessesAreCovered, NumbersRise, PutsAreCovered, LostBlocksAreTorn};
 ghost use Rattle.schedule_play.specs.Leftovers.{RefusedLeaveNothing};
 ghost use Rattle.schedule_play.specs.Lone.{LoneHostsAreDone};
 
@@ -109,4 +109,10 @@ pub fn puts_are_covered()
 /// and that was to put this unit or has put another one of the row.
 pub fn lost_blocks_are_torn()
     ensures { LostBlocksAreTorn }
+{}
+
+/// Numbers rise: along every history of a script the number of a put that was done is above those of all earlier writes and reads
+/// of its slot, and the number of a read is above those of all earlier writes.
+pub fn numbers_rise()
+    ensures { NumbersRise }
 {}
