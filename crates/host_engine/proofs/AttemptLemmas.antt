@@ -110,12 +110,12 @@ read-still (Some now) = read-draws now.stage (access_of now.job []) now.taken no
 
 pub write-still : (room : Option WriteTry) (blocks : List (List ℕ)) → draws (lefts.write_left room blocks) ≡ false
 write-still None blocks = refl
-write-still (Some now) blocks = write-draws now.stage (access_of now.job blocks) now.taken now.confirmed.items now.puts now.queue _ _ now.kept now.awake
+write-still (Some now) blocks = write-draws now.stage (access_of now.job blocks) now.taken now.confirmed now.puts now.queue _ _ now.kept now.awake
 
 -- all but a read give no contents
 pub nothing-written : (room : Option WriteTry) (blocks : List (List ℕ)) → contents_in (answer (lefts.write_left room blocks)) ≡ []
 nothing-written None blocks = refl
-nothing-written (Some now) blocks = nothing-read now.stage (access_of now.job blocks) now.taken now.confirmed.items now.puts now.queue _ _ now.kept now.awake
+nothing-written (Some now) blocks = nothing-read now.stage (access_of now.job blocks) now.taken now.confirmed now.puts now.queue _ _ now.kept now.awake
 
 pub nothing-restored : (room : Option RecoverTry) → contents_in (answer (lefts.recovery_left room)) ≡ []
 nothing-restored None = refl

@@ -1,5 +1,5 @@
 //! A read as a machine of requests.
-ghost use Rattle.std.specs.Prelude.{◌≡◌, ◌+◌, ◌*◌, ◌^◌, ◌<◌, ◌≤◌, [], ◌↔◌, Some, None, true, if◌then◌else◌, length, IsTrue, IsSome, IsNone, option_map};
+ghost use Rattle.std.specs.Prelude.{◌≡◌, ◌+◌, ◌*◌, ◌^◌, ◌<◌, ◌≤◌, [], ◌∷◌, ◌++◌, ◌↔◌, Some, None, true, if◌then◌else◌, length, IsTrue, IsSome, IsNone, option_map};
 ghost use Rattle.arrayvec.specs.ArrayVec.{array_vec_len};
 ghost use Rattle.virtual_objects.specs.RowParts.{AreRowParts};
 ghost use Rattle.attempts.specs.Reading.{contents_of, first_row};
@@ -35,7 +35,9 @@ pub struct ReadTry {
 }
 
 impl ReadTry {
+    ghost use Rattle.attempts.specs.Accesses.{access_of};
     ghost use Rattle.attempts.specs.Reading.{read_steps};
+    ghost use Rattle.attempts.specs.Releases.{read_releases, refused_steps};
     ghost use Rattle.host_read.specs.Answers.{ended_in, contents_in};
     ghost use Rattle.host_read.specs.Tries.{left};
     ghost use Rattle.host_read.specs.declared.stages.ReadStage.TheVariants.{Wanted, Parity, Others, Freeing};
@@ -156,6 +158,18 @@ impl ReadTry {
         }
     }
 
+    /// Gives back all that is held, where a reply refuses the read.
+    #[cold]
+    #[inline(never)]
+    fn refuse(&mut self, cause: Cause)
+        requires { length self.old.taken.before < 8 }
+        ensures { left self.new ≡ refused_steps (read_releases (access_of self.old.job []) (self.old.taken.before ++ self.old.taken.row ∷ [])) cause }
+    {
+        let Ahead { stage, queue } = refused(&self.job, &self.taken, cause);
+        self.stage = stage;
+        self.queue = queue;
+    }
+
     /// Takes the reply to the share of a wanted unit.
     fn take_wanted(&mut self, reply: &Reply, numbers: &mut Numbers)
         requires { self.old.stage ≡ Wanted }
@@ -165,11 +179,7 @@ impl ReadTry {
         let bay = self.queue.head().bay;
         let least = behind_from(self.job.mode, self.job.id);
         match refusal(least, self.taken.missing(), bay, reply) {
-            Some(cause) => {
-                let Ahead { stage, queue } = refused(&self.job, &self.taken, cause);
-                self.stage = stage;
-                self.queue = queue;
-            }
+            Some(cause) => self.refuse(cause),
             None => {
                 self.taken.keep_wanted(bay, reply.grant());
                 if self.queue.len() > 1 {
@@ -193,11 +203,7 @@ impl ReadTry {
         let bay = self.queue.head().bay;
         let least = behind_from(self.job.mode, self.job.id);
         match refusal(least, self.taken.missing(), bay, reply) {
-            Some(cause) => {
-                let Ahead { stage, queue } = refused(&self.job, &self.taken, cause);
-                self.stage = stage;
-                self.queue = queue;
-            }
+            Some(cause) => self.refuse(cause),
             None => {
                 self.taken.keep_parity(bay, reply.grant());
                 let ahead = after_parity(&self.job, &mut self.taken, &mut self.contents);
@@ -217,11 +223,7 @@ impl ReadTry {
         let bay = self.queue.head().bay;
         let least = behind_from(self.job.mode, self.job.id);
         match refusal(least, self.taken.missing(), bay, reply) {
-            Some(cause) => {
-                let Ahead { stage, queue } = refused(&self.job, &self.taken, cause);
-                self.stage = stage;
-                self.queue = queue;
-            }
+            Some(cause) => self.refuse(cause),
             None => {
                 self.taken.keep_other(bay, reply.grant());
                 if self.queue.len() > 1 {

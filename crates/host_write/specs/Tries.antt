@@ -9,7 +9,7 @@ use Rattle.host_write.specs.declared.write_try.WriteTry.{WriteTry}
 
 -- of these blocks
 abbrev pub left : WriteTry → List (List ℕ) → Steps Finish
-left w blocks = left_of w.stage (access_of w.job blocks) w.taken w.confirmed.items w.puts w.queue
+left w blocks = left_of w.stage (access_of w.job blocks) w.taken w.confirmed w.puts w.queue
 
 -- how many blocks it writes
 abbrev pub block_count : WriteTry → ℕ

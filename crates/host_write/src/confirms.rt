@@ -1,14 +1,14 @@
 //! What a write does next, while it confirms its rows.
-ghost use Rattle.std.specs.Prelude.{◌≡◌, ℕ, List, [], ◌∷◌, ◌<◌, ◌≤◌, Option, IfSome, true, length, drop, unwrap_or};
+ghost use Rattle.std.specs.Prelude.{◌≡◌, ℕ, List, [], ◌∷◌, ◌<◌, ◌≤◌, true, length, drop, option_map, unwrap_or};
 ghost use Rattle.arrayvec.specs.ArrayVec.{array_vec_len};
 ghost use Rattle.raid_base.specs.declared.jobs.Cause.TheVariants as causes;
 ghost use Rattle.attempts.specs.Accesses.{access_of};
 ghost use Rattle.attempts.specs.Parts.{blocks_in};
-ghost use Rattle.attempts.specs.Taking.{Row as RowView, refusal};
+ghost use Rattle.attempts.specs.Taking.{Row as RowView, refusal, with_parity};
 ghost use Rattle.attempts.specs.Releases.{write_releases, refused_steps};
 ghost use Rattle.attempts.specs.Puts.{Puts as PutsView};
 ghost use Rattle.attempts.specs.Writing.{held_row, confirmed_row, row_or_change, confirm_rows};
-ghost use Rattle.host_write.specs.Stages.{is_kept, is_settled, are_rows, is_row};
+ghost use Rattle.host_write.specs.Stages.{is_kept, is_settled, are_rows};
 ghost use Rattle.host_write.specs.Left.{left_of, confirmed_so_far};
 
 use crate::claims::row_confirm;
@@ -22,12 +22,14 @@ use attempts::replies::refusal;
 use attempts::rows::{Row, Taken, lacks};
 use raid_base::{BayNo, Cause, Cell, Grant, Number, Reply, RowNo};
 
-/// The row once its parity answered that it is held, with its cell where that was asked.
-fn held_row(row: &Row, grant: Grant, want: bool, held: Option<Option<Cell>>) -> Option<Row>
-    requires wanted { length row.now.wanted ≤ 16 }
-    requires others { length row.now.others ≤ 16 }
-    ensures value { result ≡ held_row row.now grant want held }
-    ensures kept { (n total : ℕ) → is_row n total row.now ≡ true → IfSome result (λ r. is_row n total r ≡ true) }
+/// The parity of the row once it answered that it is held, with its cell where that was asked.
+fn held_parity(
+    row: &Row,
+    grant: Grant,
+    want: bool,
+    held: Option<Option<Cell>>,
+) -> Option<Option<Grant>>
+    ensures { option_map (λ parity. with_parity parity row.now) result ≡ held_row row.now grant want held }
 {
     match held {
         None => None,
@@ -35,35 +37,29 @@ fn held_row(row: &Row, grant: Grant, want: bool, held: Option<Option<Cell>>) -> 
             if want {
                 match cell {
                     None => None,
-                    Some(cell) => {
-                        let shown = Grant {
-                            cell: Some(cell),
-                            last: grant.last,
-                            life: grant.life,
-                            seized: grant.seized,
-                        };
-                        Some(row.with_parity(Some(shown)))
-                    }
+                    Some(cell) => Some(Some(Grant {
+                        cell: Some(cell),
+                        last: grant.last,
+                        life: grant.life,
+                        seized: grant.seized,
+                    })),
                 }
             } else {
-                Some(row.copied())
+                Some(row.parity())
             }
         }
     }
 }
 
-/// The row once its parity answered as it was: held where it was granted, and missing where it was missing.
-fn confirmed_row(row: &Row, reply: &Reply) -> Option<Row>
-    requires wanted { length row.now.wanted ≤ 16 }
-    requires others { length row.now.others ≤ 16 }
-    ensures value { result ≡ confirmed_row row.now reply.now row.now.parity }
-    ensures kept { (n total : ℕ) → is_row n total row.now ≡ true → IfSome result (λ r. is_row n total r ≡ true) }
+/// The parity of the row once it answered as it was: held where it was granted, and missing where it was missing.
+fn confirmed_parity(row: &Row, reply: &Reply) -> Option<Option<Grant>>
+    ensures { option_map (λ parity. with_parity parity row.now) result ≡ confirmed_row row.now reply.now row.now.parity }
 {
     match row.parity() {
-        Some(grant) => held_row(row, grant, lacks(row.others()), reply.held()),
+        Some(grant) => held_parity(row, grant, lacks(row.others()), reply.held()),
         None => {
             if reply.is_missing() {
-                Some(row.copied())
+                Some(row.parity())
             } else {
                 None
             }
@@ -71,22 +67,19 @@ fn confirmed_row(row: &Row, reply: &Reply) -> Option<Row>
     }
 }
 
-/// The row once it is confirmed, or none where the reply refuses or the row has changed.
-pub fn row_or_change(
+/// The parity of the row once it is confirmed, or none where the reply refuses or the row has changed.
+pub fn parity_or_change(
     least: Option<Number>,
     missing: Option<BayNo>,
     bay: BayNo,
     row: &Row,
     reply: &Reply,
-) -> Option<Row>
-    requires wanted { length row.now.wanted ≤ 16 }
-    requires others { length row.now.others ≤ 16 }
-    ensures value { result ≡ row_or_change least missing bay row.now reply.now }
-    ensures kept { (n total : ℕ) → is_row n total row.now ≡ true → IfSome result (λ r. is_row n total r ≡ true) }
+) -> Option<Option<Grant>>
+    ensures { option_map (λ parity. with_parity parity row.now) result ≡ row_or_change least missing bay row.now reply.now }
 {
     match refusal(least, missing, bay, reply) {
         Some(_) => None,
-        None => confirmed_row(row, reply),
+        None => confirmed_parity(row, reply),
     }
 }
 
@@ -107,6 +100,8 @@ pub fn confirm_cause(
 }
 
 /// What is given back of all rows, where one is not confirmed.
+#[cold]
+#[inline(never)]
 pub fn unconfirmed(job: &Assignment, taken: &Taken, cause: Cause) -> Ahead
     requires { length taken.now.before ≤ 8 }
     ensures left { (blocks : List (List ℕ)) → (rows : List RowView) → (puts : PutsView) → left_of result.stage (access_of job.now blocks) taken.now rows puts result.queue ≡ refused_steps (write_releases (access_of job.now blocks) taken.now.before) cause }

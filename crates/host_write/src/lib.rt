@@ -4,6 +4,7 @@
 pub mod answered;
 pub mod blocks;
 pub mod claims;
+pub mod confirmed;
 pub mod confirms;
 pub mod parity;
 pub mod puts;

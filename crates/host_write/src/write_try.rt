@@ -10,15 +10,15 @@ ghost use Rattle.raid_base.specs.declared.messages.Errand.{Errand as ErrandView}
 use crate::answered::{add_trouble, data_answered, parity_answered};
 use crate::blocks::unit_on;
 use crate::claims::{after_parity, after_small, claim_wanted, end_row, parity_claim, refused};
-use crate::confirms::{after_confirm, confirm_cause, row_or_change, unconfirmed};
+use crate::confirmed::Confirmed;
+use crate::confirms::{after_confirm, confirm_cause, parity_or_change, unconfirmed};
 use crate::puts::Puts;
 use crate::putting::{after_data, next_put, settled};
 use crate::stages::{Ahead, WriteStage};
-use arrayvec::ArrayVec;
 use attempts::assignment::Assignment;
 use attempts::queue::Queue;
 use attempts::replies::{behind_from, refusal};
-use attempts::rows::{Row, Taken};
+use attempts::rows::Taken;
 use place_numbers::Numbers;
 use raid_base::{BayNo, Cause, Ended, Mode, Number, Reply, Request};
 use virtual_objects::RowParts;
@@ -29,15 +29,16 @@ pub struct WriteTry {
     job: Assignment,
     stage: WriteStage,
     taken: Taken,
-    confirmed: ArrayVec<Row, 8>,
+    confirmed: Confirmed,
     puts: Puts,
     queue: Queue,
-    ghost kept: { is_kept stage job.n job.parts.items (length queue) taken confirmed.items puts ≡ true },
+    ghost kept: { is_kept stage job.n job.parts.items (length queue) taken confirmed puts ≡ true },
     ghost awake: { is_settled stage ≡ true },
 }
 
 impl WriteTry {
-    ghost use Rattle.attempts.specs.Writing.{write_steps};
+    ghost use Rattle.attempts.specs.Accesses.{access_of};
+    ghost use Rattle.attempts.specs.Writing.{write_refused, write_steps};
     ghost use Rattle.host_write.specs.Answers.{ended_in};
     ghost use Rattle.raid_base.specs.First.{first_errand};
     ghost use Rattle.raid_base.specs.Replies.{grant_of};
@@ -60,7 +61,7 @@ impl WriteTry {
             job,
             stage: WriteStage::ClaimParity,
             taken: Taken::begin(part),
-            confirmed: ArrayVec::new(),
+            confirmed: Confirmed::new(),
             puts: Puts::new(),
             queue,
         }
@@ -165,6 +166,19 @@ impl WriteTry {
         }
     }
 
+    /// Gives back all that is held, where a reply refuses the write while it claims.
+    #[cold]
+    #[inline(never)]
+    fn refuse(&mut self, cause: Cause)
+        requires { length self.old.taken.before < 8 }
+        ensures left { (blocks : List (List ℕ)) → left self.new blocks ≡ write_refused (access_of self.old.job blocks) self.old.taken cause }
+        ensures job { self.new.job ≡ self.old.job }
+    {
+        let Ahead { stage, queue } = refused(&self.job, &self.taken, cause);
+        self.stage = stage;
+        self.queue = queue;
+    }
+
     /// Takes the reply to the claim of a parity.
     fn take_parity(&mut self, reply: &Reply)
         requires { self.old.stage ≡ ClaimParity }
@@ -174,11 +188,7 @@ impl WriteTry {
         let bay = self.queue.head().bay;
         let least = behind_from(self.job.mode, self.job.id);
         match refusal(least, self.taken.missing(), bay, reply) {
-            Some(cause) => {
-                let Ahead { stage, queue } = refused(&self.job, &self.taken, cause);
-                self.stage = stage;
-                self.queue = queue;
-            }
+            Some(cause) => self.refuse(cause),
             None => {
                 self.taken.keep_parity(bay, reply.grant());
                 let Ahead { stage, queue } = after_parity(&self.job, &self.taken);
@@ -197,11 +207,7 @@ impl WriteTry {
         let bay = self.queue.head().bay;
         let least = behind_from(self.job.mode, self.job.id);
         match refusal(least, self.taken.missing(), bay, reply) {
-            Some(cause) => {
-                let Ahead { stage, queue } = refused(&self.job, &self.taken, cause);
-                self.stage = stage;
-                self.queue = queue;
-            }
+            Some(cause) => self.refuse(cause),
             None => {
                 self.taken.keep_wanted(bay, reply.grant());
                 if self.queue.len() > 1 {
@@ -225,11 +231,7 @@ impl WriteTry {
         let bay = self.queue.head().bay;
         let least = behind_from(self.job.mode, self.job.id);
         match refusal(least, self.taken.missing(), bay, reply) {
-            Some(cause) => {
-                let Ahead { stage, queue } = refused(&self.job, &self.taken, cause);
-                self.stage = stage;
-                self.queue = queue;
-            }
+            Some(cause) => self.refuse(cause),
             None => {
                 self.taken.keep_wanted(bay, reply.grant());
                 if self.queue.len() > 1 {
@@ -276,11 +278,7 @@ impl WriteTry {
     {
         let least = behind_from(self.job.mode, self.job.id);
         match refusal(least, self.taken.missing(), bay, reply) {
-            Some(cause) => {
-                let Ahead { stage, queue } = refused(&self.job, &self.taken, cause);
-                self.stage = stage;
-                self.queue = queue;
-            }
+            Some(cause) => self.refuse(cause),
             None => {
                 self.taken.keep_other(bay, None);
                 let Ahead { stage, queue } = claim_wanted(&self.job, &self.taken, true);
@@ -299,11 +297,7 @@ impl WriteTry {
         let bay = self.queue.head().bay;
         let least = behind_from(self.job.mode, self.job.id);
         match refusal(least, self.taken.missing(), bay, reply) {
-            Some(cause) => {
-                let Ahead { stage, queue } = refused(&self.job, &self.taken, cause);
-                self.stage = stage;
-                self.queue = queue;
-            }
+            Some(cause) => self.refuse(cause),
             None => {
                 self.taken.keep_other(bay, reply.grant());
                 if self.queue.len() > 1 {
@@ -331,9 +325,9 @@ impl WriteTry {
         let missing = self.taken.missing();
         let row = &self.taken.before()[self.confirmed.len()];
         let place = row.part().row;
-        match row_or_change(least, missing, bay, row, reply) {
-            Some(row) => {
-                self.confirmed.push(row);
+        match parity_or_change(least, missing, bay, row, reply) {
+            Some(parity) => {
+                self.confirmed.push(row, parity);
                 let rows = self.confirmed.as_slice();
                 let ahead = after_confirm(&self.job, blocks, &self.taken, rows, &mut self.puts);
                 let Ahead { stage, queue } = settled(

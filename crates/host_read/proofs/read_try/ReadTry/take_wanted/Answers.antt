@@ -9,6 +9,7 @@ use Rattle.attempts.specs.Reading.{sharing, wanted_shared}
 use Rattle.host_read.specs.declared.stages.ReadStage.TheVariants.{Wanted}
 use Rattle.host_read.specs.Stages.{is_kept}
 use Rattle.host_read.specs.Left.{left_of, rest_of}
+use Rattle.host_read.specs.Tries.{left}
 use Rattle.host_read.proofs.ReadLemmas.{draws-left}
 use Rattle.host_read.proofs.TryLemmas.{stands, stop-left, on-left, last-left, some-wanted}
 use Rattle.host_read.proofs.read_try.ReadTry.take_wanted.Goals as goal
@@ -18,14 +19,14 @@ returns-in-Some-clause-told c =
     let t = c.args.self.now in
     let a = access_of t.job [] in
     let r = c.args.reply.now in
-    let ahead = c.refused-stage.result in
+    let now = c.refuse.new.self in
     let kept : is_kept Wanted (length t.job.parts.items) (length t.queue) t.taken ≡ true = sym (ap (λ s. is_kept s (length t.job.parts.items) (length t.queue) t.taken) c.requires) ∙ t.kept in
     let some : 0 < length t.queue = some-wanted t.taken t.queue (length t.job.parts.items) kept in
     let why : refusal (behind_from a.mode a.id) t.taken.missing (first_errand t.queue).bay r ≡ Some c.in-Some.cause = cc in
-    stands c.args.numbers.now.host c.args.numbers.now.seen (behind (left_of t.stage a t.taken t.queue) r) (left_of ahead.stage a t.taken ahead.queue)
-    (stop-left a with_wanted (wanted_shared a (rest_of a t.taken)) t.taken t.queue r c.in-Some.cause (left_of ahead.stage a t.taken ahead.queue) some why refl c.refused-stage.ensures.left
+    stands c.args.numbers.now.host c.args.numbers.now.seen (behind (left_of t.stage a t.taken t.queue) r) (left now)
+    (stop-left a with_wanted (wanted_shared a (rest_of a t.taken)) t.taken t.queue r c.in-Some.cause (left now) some why refl c.refuse.ensures
     ∙ ap (λ s. behind (left_of s a t.taken t.queue) r) (sym c.requires))
-    (draws-left ahead.stage a t.taken ahead.queue (length t.job.parts.items) c.refused-stage.ensures.kept c.refused-stage.ensures.awake)
+    (draws-left now.stage (access_of now.job []) now.taken now.queue (length now.job.parts.items) now.kept now.awake)
 
 pub returns-then-len-gt1-clause-told : goal.returns-then-len-gt1-clause-told
 returns-then-len-gt1-clause-told c =

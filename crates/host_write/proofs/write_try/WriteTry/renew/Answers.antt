@@ -19,7 +19,7 @@ pub returns-clause-left : goal.returns-clause-left
 returns-clause-left c = λ blocks.
     let a : Access = record { mode = c.args.mode; n = c.args.n; id = c.args.id; parts = c.args.parts.items; blocks = blocks } in
     let d : RowPart = record { row = record { 0 = 0 }; mask = 0; at = 0; count = 0 } in
-    row_begins a no_rows 0 d (get_or c.deref.result.now 0 d) c.renew.new.self c.clear.new.self.items c.clear-2.new.self c.parity_claim-self.result
+    row_begins a no_rows 0 d (get_or c.deref.result.now 0 d) c.renew.new.self c.clear.new.self c.clear-2.new.self c.parity_claim-self.result
     c.requires.parts.some
     (ap (λ ps. get_or ps 0 d) c.deref.ensures.0)
     c.renew.ensures

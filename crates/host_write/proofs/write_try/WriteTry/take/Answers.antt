@@ -14,7 +14,7 @@ returns-in-ClaimParity-clause-told c =
     let r = c.args.reply.now in
     let blocks = c.args.blocks.now in
     stands c.args.numbers.now.host c.hear.new.self.seen (behind (left w blocks) r) (left now blocks) (c.take_parity.ensures.left c.args.blocks.now)
-    (draws-left now.stage (access_of now.job blocks) now.taken now.confirmed.items now.puts now.queue now.job.n now.job.parts.items now.kept now.awake)
+    (draws-left now.stage (access_of now.job blocks) now.taken now.confirmed now.puts now.queue now.job.n now.job.parts.items now.kept now.awake)
     ∙ ap (λ n. settled c.args.numbers.now.host n.seen (behind (left w blocks) r)) c.hear.ensures
 
 pub returns-in-ClaimWanted-clause-told : goal.returns-in-ClaimWanted-clause-told
@@ -24,7 +24,7 @@ returns-in-ClaimWanted-clause-told c =
     let r = c.args.reply.now in
     let blocks = c.args.blocks.now in
     stands c.args.numbers.now.host c.hear.new.self.seen (behind (left w blocks) r) (left now blocks) (c.take_wanted.ensures.left c.args.blocks.now)
-    (draws-left now.stage (access_of now.job blocks) now.taken now.confirmed.items now.puts now.queue now.job.n now.job.parts.items now.kept now.awake)
+    (draws-left now.stage (access_of now.job blocks) now.taken now.confirmed now.puts now.queue now.job.n now.job.parts.items now.kept now.awake)
     ∙ ap (λ n. settled c.args.numbers.now.host n.seen (behind (left w blocks) r)) c.hear.ensures
 
 pub returns-in-ClaimSmall-clause-told : goal.returns-in-ClaimSmall-clause-told
@@ -34,7 +34,7 @@ returns-in-ClaimSmall-clause-told c =
     let r = c.args.reply.now in
     let blocks = c.args.blocks.now in
     stands c.args.numbers.now.host c.hear.new.self.seen (behind (left w blocks) r) (left now blocks) (c.take_small.ensures.left c.args.blocks.now)
-    (draws-left now.stage (access_of now.job blocks) now.taken now.confirmed.items now.puts now.queue now.job.n now.job.parts.items now.kept now.awake)
+    (draws-left now.stage (access_of now.job blocks) now.taken now.confirmed now.puts now.queue now.job.n now.job.parts.items now.kept now.awake)
     ∙ ap (λ n. settled c.args.numbers.now.host n.seen (behind (left w blocks) r)) c.hear.ensures
 
 pub returns-in-ShareUntil-clause-told : goal.returns-in-ShareUntil-clause-told
@@ -44,7 +44,7 @@ returns-in-ShareUntil-clause-told c =
     let r = c.args.reply.now in
     let blocks = c.args.blocks.now in
     stands c.args.numbers.now.host c.hear.new.self.seen (behind (left w blocks) r) (left now blocks) (c.take_until.ensures.left c.args.blocks.now)
-    (draws-left now.stage (access_of now.job blocks) now.taken now.confirmed.items now.puts now.queue now.job.n now.job.parts.items now.kept now.awake)
+    (draws-left now.stage (access_of now.job blocks) now.taken now.confirmed now.puts now.queue now.job.n now.job.parts.items now.kept now.awake)
     ∙ ap (λ n. settled c.args.numbers.now.host n.seen (behind (left w blocks) r)) c.hear.ensures
 
 pub returns-in-ShareAfter-clause-told : goal.returns-in-ShareAfter-clause-told
@@ -54,7 +54,7 @@ returns-in-ShareAfter-clause-told c =
     let r = c.args.reply.now in
     let blocks = c.args.blocks.now in
     stands c.args.numbers.now.host c.hear.new.self.seen (behind (left w blocks) r) (left now blocks) (c.take_after.ensures.left c.args.blocks.now)
-    (draws-left now.stage (access_of now.job blocks) now.taken now.confirmed.items now.puts now.queue now.job.n now.job.parts.items now.kept now.awake)
+    (draws-left now.stage (access_of now.job blocks) now.taken now.confirmed now.puts now.queue now.job.n now.job.parts.items now.kept now.awake)
     ∙ ap (λ n. settled c.args.numbers.now.host n.seen (behind (left w blocks) r)) c.hear.ensures
 
 pub returns-in-PutData-clause-told : goal.returns-in-PutData-clause-told
@@ -64,7 +64,7 @@ returns-in-PutData-clause-told c =
     let r = c.args.reply.now in
     let blocks = c.args.blocks.now in
     stands c.args.numbers.now.host c.hear.new.self.seen (behind (left w blocks) r) (left now blocks) c.take_data.ensures.left
-    (draws-left now.stage (access_of now.job blocks) now.taken now.confirmed.items now.puts now.queue now.job.n now.job.parts.items now.kept now.awake)
+    (draws-left now.stage (access_of now.job blocks) now.taken now.confirmed now.puts now.queue now.job.n now.job.parts.items now.kept now.awake)
     ∙ ap (λ n. settled c.args.numbers.now.host n.seen (behind (left w blocks) r)) c.hear.ensures
 
 pub returns-in-PutParity-clause-told : goal.returns-in-PutParity-clause-told
@@ -74,7 +74,7 @@ returns-in-PutParity-clause-told c =
     let r = c.args.reply.now in
     let blocks = c.args.blocks.now in
     stands c.args.numbers.now.host c.hear.new.self.seen (behind (left w blocks) r) (left now blocks) c.take_put.ensures.left
-    (draws-left now.stage (access_of now.job blocks) now.taken now.confirmed.items now.puts now.queue now.job.n now.job.parts.items now.kept now.awake)
+    (draws-left now.stage (access_of now.job blocks) now.taken now.confirmed now.puts now.queue now.job.n now.job.parts.items now.kept now.awake)
     ∙ ap (λ n. settled c.args.numbers.now.host n.seen (behind (left w blocks) r)) c.hear.ensures
 
 pub returns-in-Finish-clause-told : goal.returns-in-Finish-clause-told
@@ -84,7 +84,7 @@ returns-in-Finish-clause-told c =
     let a = access_of w.job blocks in
     let q = c.advance.new.self in
     let r = c.args.reply.now in
-    let rows = w.confirmed.items in
+    let rows = w.confirmed in
     let some : 0 < length w.queue = has-errand w.stage a w.taken rows w.puts w.queue w.job.n w.job.parts.items w.kept w.awake c.requires.asks in
     stands c.args.numbers.now.host c.hear.new.self.seen (behind (left w blocks) r) (left_of w.stage a w.taken rows w.puts q)
     (ap (λ s. left_of s a w.taken rows w.puts q) c.in-Finish.is
@@ -100,7 +100,7 @@ returns-in-Release-clause-told c =
     let a = access_of w.job blocks in
     let q = c.advance-in-Release.new.self in
     let r = c.args.reply.now in
-    let rows = w.confirmed.items in
+    let rows = w.confirmed in
     let some : 0 < length w.queue = has-errand w.stage a w.taken rows w.puts w.queue w.job.n w.job.parts.items w.kept w.awake c.requires.asks in
     stands c.args.numbers.now.host c.hear.new.self.seen (behind (left w blocks) r) (left_of w.stage a w.taken rows w.puts q)
     (ap (λ s. left_of s a w.taken rows w.puts q) c.in-Release.is

@@ -19,23 +19,23 @@ returns-else-len-gt1-clause-left c =
     let a = access_of w.job c.args.blocks.now in
     let r = c.args.reply.now in
     let t = w.taken in
-    let rows = w.confirmed.items in
+    let rows = w.confirmed in
     let n = c.args.number in
     let k = c.args.row in
     let q = w.queue in
     let slice = c.as_slice-rows.result.now in
     let kept : is_kept (PutData n k) w.job.n w.job.parts.items (length q) t rows w.puts ≡ true =
     sym (ap (λ s. is_kept s w.job.n w.job.parts.items (length q) t rows w.puts) c.requires.stage) ∙ w.kept in
-    let within : k < length slice = omega (arith, within-data n k w.job.n w.job.parts.items q t rows w.puts kept, ap length c.as_slice-rows.ensures.value) in
-    let this : c.index-rows-row.result ≡ row_at rows k = get_or_read slice k c.index-rows-row.result within c.index-rows-row.is _ ∙ ap (λ xs. row_at xs k) c.as_slice-rows.ensures.value in
+    let within : k < length slice = omega (arith, within-data n k w.job.n w.job.parts.items q t rows w.puts kept, ap length c.as_slice-rows.ensures) in
+    let this : c.index-rows-row.result ≡ row_at rows k = get_or_read slice k c.index-rows-row.result within c.index-rows-row.is _ ∙ ap (λ xs. row_at xs k) c.as_slice-rows.ensures in
     let some : 0 < length q = some-data n k w.job.n w.job.parts.items q t rows w.puts kept in
     let at : c.unit_on-unit.result ≡ unit_of a (row_at rows k) (first_errand q) =
     (let read : c.unit_on-unit.result ≡ unit_of a c.index-rows-row.result (first_errand q) = cc in read) ∙ ap (λ x. unit_of a x (first_errand q)) this in
     let ahead = c.after_data-stage.result in
     let puts = c.data_answered.new.puts in
-    ap (λ xs. left_of ahead.stage a t xs c.after_data-stage.new.puts ahead.queue) (sym c.as_slice-rows.ensures.value)
+    ap (λ xs. left_of ahead.stage a t xs c.after_data-stage.new.puts ahead.queue) (sym c.as_slice-rows.ensures)
     ∙ c.after_data-stage.ensures.left t
-    ∙ ap (λ xs. data_done a n (row_at xs k) (puts_of a n xs k) (Through puts)) c.as_slice-rows.ensures.value
+    ∙ ap (λ xs. data_done a n (row_at xs k) (puts_of a n xs k) (Through puts)) c.as_slice-rows.ensures
     ∙ data-last a t rows w.puts q r n k puts (omega (arith, some))
     (data-some a c.index-rows-row.result (row_at rows k) w.puts puts c.unit_on-unit.result (first_errand q) (put_end r) c.data_answered.result this at (c.data_answered.ensures.value c.args.blocks.now) c.if-data_answered.true)
     ∙ ap (λ s. behind (left_of s a t rows w.puts q) r) (sym c.requires.stage)
@@ -46,15 +46,15 @@ returns-else-data_answered-clause-left c =
     let a = access_of w.job c.args.blocks.now in
     let r = c.args.reply.now in
     let t = w.taken in
-    let rows = w.confirmed.items in
+    let rows = w.confirmed in
     let n = c.args.number in
     let k = c.args.row in
     let q = w.queue in
     let slice = c.as_slice-rows.result.now in
     let kept : is_kept (PutData n k) w.job.n w.job.parts.items (length q) t rows w.puts ≡ true =
     sym (ap (λ s. is_kept s w.job.n w.job.parts.items (length q) t rows w.puts) c.requires.stage) ∙ w.kept in
-    let within : k < length slice = omega (arith, within-data n k w.job.n w.job.parts.items q t rows w.puts kept, ap length c.as_slice-rows.ensures.value) in
-    let this : c.index-rows-row.result ≡ row_at rows k = get_or_read slice k c.index-rows-row.result within c.index-rows-row.is _ ∙ ap (λ xs. row_at xs k) c.as_slice-rows.ensures.value in
+    let within : k < length slice = omega (arith, within-data n k w.job.n w.job.parts.items q t rows w.puts kept, ap length c.as_slice-rows.ensures) in
+    let this : c.index-rows-row.result ≡ row_at rows k = get_or_read slice k c.index-rows-row.result within c.index-rows-row.is _ ∙ ap (λ xs. row_at xs k) c.as_slice-rows.ensures in
     let some : 0 < length q = some-data n k w.job.n w.job.parts.items q t rows w.puts kept in
     let at : c.unit_on-unit.result ≡ unit_of a (row_at rows k) (first_errand q) =
     (let read : c.unit_on-unit.result ≡ unit_of a c.index-rows-row.result (first_errand q) = cc in read) ∙ ap (λ x. unit_of a x (first_errand q)) this in
@@ -65,9 +65,9 @@ returns-else-data_answered-clause-left c =
     ∙ ap (λ p. with_trouble w.puts (if is_fault r then Faulted (first_errand q).bay else Robbed p)) c.part-part.ensures
     ∙ ap (λ x. with_trouble w.puts (trouble_of x (first_errand q) r)) this in
     let ahead = c.next_put-stage.result in
-    ap (λ xs. left_of ahead.stage a t xs c.next_put-stage.new.puts ahead.queue) (sym c.as_slice-rows.ensures.value)
+    ap (λ xs. left_of ahead.stage a t xs c.next_put-stage.new.puts ahead.queue) (sym c.as_slice-rows.ensures)
     ∙ c.next_put-stage.ensures.left t
-    ∙ ap (λ xs. puts_of a n xs k c.add_trouble.new.puts) c.as_slice-rows.ensures.value
+    ∙ ap (λ xs. puts_of a n xs k c.add_trouble.new.puts) c.as_slice-rows.ensures
     ∙ ap (puts_of a n rows k) troubled
     ∙ data-stop a t rows w.puts q r n k some
     (data-none a c.index-rows-row.result (row_at rows k) w.puts c.data_answered.new.puts c.unit_on-unit.result (first_errand q) (put_end r) c.data_answered.result this at (c.data_answered.ensures.value c.args.blocks.now) c.if-data_answered.false)

@@ -18,21 +18,21 @@ returns-then-parity_answered-clause-left c =
     let a = access_of w.job c.args.blocks.now in
     let r = c.args.reply.now in
     let t = w.taken in
-    let rows = w.confirmed.items in
+    let rows = w.confirmed in
     let n = c.args.number in
     let k = c.args.row in
     let q = w.queue in
     let slice = c.as_slice-rows.result.now in
     let kept : is_kept (PutParity n k) w.job.n w.job.parts.items (length q) t rows w.puts ≡ true =
     sym (ap (λ s. is_kept s w.job.n w.job.parts.items (length q) t rows w.puts) c.requires.stage) ∙ w.kept in
-    let within : k < length slice = omega (arith, within-put n k w.job.n w.job.parts.items q t rows w.puts kept, ap length c.as_slice-rows.ensures.value) in
-    let this : c.index-rows-row.result ≡ row_at rows k = get_or_read slice k c.index-rows-row.result within c.index-rows-row.is _ ∙ ap (λ xs. row_at xs k) c.as_slice-rows.ensures.value in
+    let within : k < length slice = omega (arith, within-put n k w.job.n w.job.parts.items q t rows w.puts kept, ap length c.as_slice-rows.ensures) in
+    let this : c.index-rows-row.result ≡ row_at rows k = get_or_read slice k c.index-rows-row.result within c.index-rows-row.is _ ∙ ap (λ xs. row_at xs k) c.as_slice-rows.ensures in
     let one : length q ≡ 1 = one-put n k w.job.n w.job.parts.items q t rows w.puts kept in
     let ahead = c.next_put-stage.result in
     let puts = c.parity_answered.new.puts in
-    ap (λ xs. left_of ahead.stage a t xs c.next_put-stage.new.puts ahead.queue) (sym c.as_slice-rows.ensures.value)
+    ap (λ xs. left_of ahead.stage a t xs c.next_put-stage.new.puts ahead.queue) (sym c.as_slice-rows.ensures)
     ∙ c.next_put-stage.ensures.left t
-    ∙ ap (λ xs. puts_of a n xs k puts) c.as_slice-rows.ensures.value
+    ∙ ap (λ xs. puts_of a n xs k puts) c.as_slice-rows.ensures
     ∙ parity-last a t rows w.puts q r n k puts one
     (parity-some a c.index-rows-row.result (row_at rows k) w.puts puts (put_end r) c.parity_answered.result this (c.parity_answered.ensures.value c.args.blocks.now) c.if-parity_answered.true)
     ∙ ap (λ s. behind (left_of s a t rows w.puts q) r) (sym c.requires.stage)
@@ -43,15 +43,15 @@ returns-else-parity_answered-clause-left c =
     let a = access_of w.job c.args.blocks.now in
     let r = c.args.reply.now in
     let t = w.taken in
-    let rows = w.confirmed.items in
+    let rows = w.confirmed in
     let n = c.args.number in
     let k = c.args.row in
     let q = w.queue in
     let slice = c.as_slice-rows.result.now in
     let kept : is_kept (PutParity n k) w.job.n w.job.parts.items (length q) t rows w.puts ≡ true =
     sym (ap (λ s. is_kept s w.job.n w.job.parts.items (length q) t rows w.puts) c.requires.stage) ∙ w.kept in
-    let within : k < length slice = omega (arith, within-put n k w.job.n w.job.parts.items q t rows w.puts kept, ap length c.as_slice-rows.ensures.value) in
-    let this : c.index-rows-row.result ≡ row_at rows k = get_or_read slice k c.index-rows-row.result within c.index-rows-row.is _ ∙ ap (λ xs. row_at xs k) c.as_slice-rows.ensures.value in
+    let within : k < length slice = omega (arith, within-put n k w.job.n w.job.parts.items q t rows w.puts kept, ap length c.as_slice-rows.ensures) in
+    let this : c.index-rows-row.result ≡ row_at rows k = get_or_read slice k c.index-rows-row.result within c.index-rows-row.is _ ∙ ap (λ xs. row_at xs k) c.as_slice-rows.ensures in
     let one : length q ≡ 1 = one-put n k w.job.n w.job.parts.items q t rows w.puts kept in
     let troubled : c.add_trouble.new.puts ≡ with_trouble w.puts (trouble_of (row_at rows k) (first_errand q) r) =
     c.add_trouble.ensures
@@ -60,9 +60,9 @@ returns-else-parity_answered-clause-left c =
     ∙ ap (λ p. with_trouble w.puts (if is_fault r then Faulted (first_errand q).bay else Robbed p)) c.part-part.ensures
     ∙ ap (λ x. with_trouble w.puts (trouble_of x (first_errand q) r)) this in
     let ahead = c.next_put-stage-else-parity_answered.result in
-    ap (λ xs. left_of ahead.stage a t xs c.next_put-stage-else-parity_answered.new.puts ahead.queue) (sym c.as_slice-rows.ensures.value)
+    ap (λ xs. left_of ahead.stage a t xs c.next_put-stage-else-parity_answered.new.puts ahead.queue) (sym c.as_slice-rows.ensures)
     ∙ c.next_put-stage-else-parity_answered.ensures.left t
-    ∙ ap (λ xs. puts_of a n xs k c.add_trouble.new.puts) c.as_slice-rows.ensures.value
+    ∙ ap (λ xs. puts_of a n xs k c.add_trouble.new.puts) c.as_slice-rows.ensures
     ∙ ap (puts_of a n rows k) troubled
     ∙ parity-stop a t rows w.puts q r n k (omega (arith, one))
     (parity-none a c.index-rows-row.result (row_at rows k) w.puts c.parity_answered.new.puts (put_end r) c.parity_answered.result this (c.parity_answered.ensures.value c.args.blocks.now) c.if-parity_answered.false)

@@ -18,12 +18,12 @@ returns-else-len-gt1-clause-left c = λ blocks.
     let r = c.args.reply.now in
     let t' = c.keep_wanted.new.self in
     let ahead = c.after_small-stage.result in
-    let kept : is_kept ClaimSmall w.job.n w.job.parts.items (length w.queue) w.taken w.confirmed.items w.puts ≡ true =
-    sym (ap (λ s. is_kept s w.job.n w.job.parts.items (length w.queue) w.taken w.confirmed.items w.puts) c.requires) ∙ w.kept in
-    let some : 0 < length w.queue = some-small w.job.n w.job.parts.items w.queue w.taken w.confirmed.items w.puts kept in
+    let kept : is_kept ClaimSmall w.job.n w.job.parts.items (length w.queue) w.taken w.confirmed w.puts ≡ true =
+    sym (ap (λ s. is_kept s w.job.n w.job.parts.items (length w.queue) w.taken w.confirmed w.puts) c.requires) ∙ w.kept in
+    let some : 0 < length w.queue = some-small w.job.n w.job.parts.items w.queue w.taken w.confirmed w.puts kept in
     let why : refusal (behind_from a.mode a.id) w.taken.missing (first_errand w.queue).bay r ≡ None = cc in
     let keeps : t' ≡ with_grant with_wanted w.taken (first_errand w.queue).bay (grant_of r) = cc in
     ap (λ rows. left_of ahead.stage a c.after_small-stage.new.taken rows w.puts ahead.queue) c.clear.ensures
     ∙ last-left a with_wanted (small_claimed a) w.taken t' w.queue r (left_of ahead.stage a c.after_small-stage.new.taken [] w.puts ahead.queue)
     (omega (arith, some)) why keeps (c.after_small-stage.ensures.left blocks w.puts)
-    ∙ ap (λ s. behind (left_of s a w.taken w.confirmed.items w.puts w.queue) r) (sym c.requires)
+    ∙ ap (λ s. behind (left_of s a w.taken w.confirmed w.puts w.queue) r) (sym c.requires)
