@@ -25,6 +25,7 @@ use Rattle.host_engine.specs.History.{turns_of}
 use Rattle.host_engine.proofs.Quotas.{totals_cover_requests}
 use Rattle.host_engine.proofs.HostCauses.{causes_are_met}
 use Rattle.host_engine.proofs.CompleteHistory.{unrefused_jobs_are_done}
+use Rattle.host_engine.proofs.CompleteSteps.{unrefused_attempts_go_on}
 use Rattle.report_text.specs.Report.{ReportOf, report_text}
 use Rattle.report_text.specs.Views.{report_in}
 use Rattle.load_maker.specs.Load.{load_script}
@@ -40,10 +41,10 @@ use Rattle.schedule_play.specs.Headline.{StoresHold, results, contents, report_o
 use Rattle.schedule_play.specs.declared.world.World.{World}
 use Rattle.schedule_play.specs.declared.making.WorldFault.{WorldFault}
 use Rattle.schedule_play.specs.declared.making.WorldFault.TheVariants as faults
-use Rattle.schedule_play.proofs.FirstReport.{first-report}
 use Rattle.schedule_play.proofs.LoneBays.{lone_hosts_are_done}
+use Rattle.schedule_play.proofs.TornEndings.{lost_blocks_are_torn}
+use Rattle.schedule_play.proofs.ContentParity.{parity_is_kept, contents_are_shown}
 use Rattle.schedule_play.proofs.FirstSerial.{first_plays_are_serial}
-use Rattle.schedule_play.proofs.FirstParity.{first_plays_keep_parity}
 use Rattle.schedule_play.proofs.CloseLemmas.{closed-journals, closed-stores, closed-back}
 use Rattle.schedule_play.proofs.ReportLemmas.{report-is}
 use Rattle.schedule_play.proofs.ContentLemmas.{contents-whole}
@@ -194,11 +195,13 @@ module _ {D : Type 0} {g : Ghosts D} where
           (closed-stores script history now.bays.items now.others.items shows.bays at.told shows.bay_count whole);
     };
     causes = λ host. causes_are_met script history is (shows.told at.told) host;
+    parity = parity_is_kept script history is (shows.told at.told);
+    contents = contents_are_shown script history is (shows.told at.told);
+    lost_blocks = lost_blocks_are_torn script history is (shows.told at.told);
+    attempts = unrefused_attempts_go_on script history is few (shows.told at.told);
     unrefused = unrefused_jobs_are_done script history is few (shows.told at.told);
     alone = lone_hosts_are_done script history is few (shows.told at.told);
     serial = λ form well. first_plays_are_serial script history (all_requests script) (is-first script form) at.played well at.over;
-    parity = λ form well. first_plays_keep_parity script history (all_requests script) (is-first script form) at.played well;
-    lost_blocks = λ form well. (first-report script history (all_requests script) (is-first script form) at.played well at.over).lost_blocks;
   }
 
   -- and its report

@@ -17,11 +17,12 @@ use Rattle.script_text.specs.Faults.{fault_in}
 use Rattle.script_text.specs.Ranges.{IsScript}
 use Rattle.script_text.specs.Weights.{total}
 use Rattle.report_text.specs.Report.{ReportOf, report_text}
-use Rattle.host_engine.specs.Completeness.{UnrefusedAreDone}
+use Rattle.host_engine.specs.Completeness.{UnrefusedAreDone, UnrefusedGoOn}
 use Rattle.load_maker.specs.Load.{load_script}
 use Rattle.load_maker.specs.Summary.{summary_text}
 use Rattle.schedule_play.specs.World.{EachAt}
 use Rattle.schedule_play.specs.Making.{AreBack, AreLarge, IsFirstSmall}
+use Rattle.schedule_play.specs.Contents.{AreContentsShown}
 use Rattle.schedule_play.specs.FirstForm.{has_fault}
 use Rattle.schedule_play.specs.Lone.{LoneJobsAreDone}
 use Rattle.schedule_play.specs.Headline.{Outcome as PlayOutcome, IsPlayOf, HasCauses, IsSerialPlay, KeepsParity, NamesLostRightly, report_of}
@@ -38,18 +39,21 @@ handed_out g outcome = record {
   stores = map g.content outcome.stores.items;
 }
 
--- The play of a script: what is handed out is the play's, and each result that gives a cause has it. Each read or write whose
--- last attempt met no refusal is done, and where one host alone reads and writes and no bay has answered Fault each job that
--- has parts is done at its first attempt. For a script of the first form whose stores have not failed the play is serial,
--- keeps the parity, and names lost blocks rightly
+-- The play of a script: what is handed out is the play's, each result that gives a cause has it, the parity is kept at every
+-- moment, what is shown of a unit at the end is the content that it took last, and lost blocks are named rightly. An attempt of a
+-- read or write that meets no refusal goes on, or its job is done with it; so each whose last attempt met none is done; and where
+-- one host alone reads and writes and no bay has answered Fault each job that has parts is done at its first attempt. For a script
+-- of the first form whose stores have not failed the play is serial
 pub record IsPlayed (script : Script) (outcome : PlayOutcome) (history : List Call) : Type 0 where
   pub play : IsPlayOf script history outcome
   pub causes : HasCauses script history
+  pub parity : KeepsParity script history
+  pub contents : AreContentsShown script history
+  pub lost_blocks : NamesLostRightly script history
+  pub attempts : UnrefusedGoOn script history
   pub unrefused : UnrefusedAreDone script history
   pub alone : LoneJobsAreDone script history
   pub serial : IsFirstForm script → has_fault history ≡ false → IsSerialPlay script history
-  pub parity : IsFirstForm script → has_fault history ≡ false → KeepsParity script history
-  pub lost_blocks : IsFirstForm script → has_fault history ≡ false → NamesLostRightly script history
 
 -- and its report
 pub record IsReported (script : Script) (outcome : PlayOutcome) (report : ReportOf) : Type 0 where

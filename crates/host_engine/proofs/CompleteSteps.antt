@@ -121,7 +121,7 @@ module _ (script : Script) (host : HostNo) where
     GoesOn now = IsUnderWay p now call ⊎ IsDoneWith p now call
 
     -- where the call was taken, and the job in hand is a read or a write whose host is not to stop in it
-    module _ (q : Progress) (ended : q.endings ≡ p.endings) (tried : q.tries ≡ p.tries) (called : q.calls ≡ call ∷ p.calls)
+    module _ (q : Progress) (same_jobs : q.jobs ≡ p.jobs) (ended : q.endings ≡ p.endings) (tried : q.tries ≡ p.tries) (called : q.calls ≡ call ∷ p.calls)
         (job : Job) (jobs : List Job) (first : q.jobs ≡ job ∷ jobs) (plain : IsReadOrWrite job.task) (quit : job.quit ≡ None) where
       never-stops : stops q ≡ true → ⊥
       never-stops stopped = goes-on job.quit q.asked quit (subst (λ (js : List Job). job_stops js q.asked ≡ true) first stopped)
@@ -141,7 +141,9 @@ module _ (script : Script) (host : HostNo) where
           let has : HasNumbers ending = (all-right HasNumbers p.endings (ending ∷ more.later) (subst (AllByRecursion HasNumbers) all numbers)).0 in
           record {
             ending = ending;
+            left = jobs;
             later = more.later;
+            job = sym same_jobs ∙ first;
             endings = all;
             tries = tried;
             calls = called;
@@ -166,16 +168,16 @@ module _ (script : Script) (host : HostNo) where
       attempt-done read ends.Mended does numbers = absurd (not-rebuilt job.task plain (does q.tries refl))
 
       -- or asks on
-      under-way : (now : Progress) → now.endings ≡ q.endings → now.tries ≡ q.tries → now.calls ≡ q.calls → GoesOn now
-      under-way now e t c = inl (record { endings = e ∙ ended; tries = t ∙ tried; calls = c ∙ called })
+      under-way : (now : Progress) → now.jobs ≡ q.jobs → now.endings ≡ q.endings → now.tries ≡ q.tries → now.calls ≡ q.calls → GoesOn now
+      under-way now j e t c = inl (record { jobs = j ∙ same_jobs; endings = e ∙ ended; tries = t ∙ tried; calls = c ∙ called })
 
       asks-go : (steps : Steps Finish) (stop : Ended) (stopped : Bool) → stops q ≡ stopped → GoesOn (asks_on q steps stop stopped)
       asks-go steps stop true stopped = absurd (never-stops stopped)
-      asks-go steps stop false stopped = under-way (asks_on q steps stop false) refl refl refl
+      asks-go steps stop false stopped = under-way (asks_on q steps stop false) refl refl refl refl
 
       left-go : (steps : Steps Finish) → Plainly (Does (IsDoneBy job.task)) steps → HaveNumbers (steps_left script host q steps) → GoesOn (steps_left script host q steps)
       left-go (Asks e t c k) does numbers = asks-go (Asks e t c k) t (stops q) refl
-      left-go (Draws k) does numbers = under-way (steps_left script host q (Draws k)) refl refl refl
+      left-go (Draws k) does numbers = under-way (steps_left script host q (Draws k)) refl refl refl refl
       left-go (Ends finish) does numbers = inr (attempt-done finish.contents finish.ended does numbers)
 
     -- what the reply does
@@ -188,7 +190,7 @@ module _ (script : Script) (host : HostNo) where
           let does : Plainly (Does (IsDoneBy job.task)) now.steps =
           settled-plain (Does (IsDoneBy job.task)) host (sees p.seen call.answer.reply) (behind steps call.answer.reply)
           (behind-plain (Does (IsDoneBy job.task)) call steps (tries can.0 can.2 good.1) asked fit good.0) in
-          left-go (record (call_counted p call) { seen = now.seen }) refl refl refl job jobs first can.0 can.1 now.steps does numbers
+          left-go (record (call_counted p call) { seen = now.seen }) refl refl refl refl job jobs first can.0 can.1 now.steps does numbers
 
       work-goes : (js : List Job) → p.jobs ≡ js → CanBeDone script js → (work : Work) → Works script host p.calls js work → work_errand work ≡ Some (errand_of call)
           → HaveNumbers (work_told script host (call_counted p call) call.answer.reply work) → GoesOn (work_told script host (call_counted p call) call.answer.reply work)

@@ -51,6 +51,7 @@ UnrefusedJobsAreDone = (script : Script) (history : List Call) → IsScript scri
 
 -- Attempt by attempt. After its call an attempt is under way
 pub record IsUnderWay (before now : Progress) (call : Call) : Type 0 where
+  pub jobs : now.jobs ≡ before.jobs
   pub endings : now.endings ≡ before.endings
   pub tries : now.tries ≡ before.tries
   pub calls : now.calls ≡ call ∷ before.calls
@@ -58,7 +59,9 @@ pub record IsUnderWay (before now : Progress) (call : Call) : Type 0 where
 -- or its job is done with it; jobs behind that one may have ended without a request
 pub record IsDoneWith (before now : Progress) (call : Call) : Type 0 where
   pub ending : Ending
+  pub left : List Job
   pub later : List Ending
+  pub job : before.jobs ≡ ending.job ∷ left
   pub endings : now.endings ≡ before.endings ++ ending ∷ later
   pub tries : ending.tries ≡ before.tries
   pub calls : ending.calls ≡ call ∷ before.calls

@@ -216,7 +216,7 @@ module _ (script : Script) (is : IsScript script) (host : HostNo) where
   unfolding AreAimed
   start-awake = jobs-awake (jobs_of script host) (script-aims script host is) (before_start script host)
 
-history-awake : (script : Script) (host : HostNo) (history : List Call) → IsPlayable script → AreAsked script history → IsAwake (progress_at script host history).work
+pub history-awake : (script : Script) (host : HostNo) (history : List Call) → IsPlayable script → AreAsked script history → IsAwake (progress_at script host history).work
 history-awake script host [] is h = start-awake script is.ranges host
 history-awake script host (call ∷ earlier) is h = by (call.ask.host.0 == host.0) (history-awake script host earlier is h.0)
   where

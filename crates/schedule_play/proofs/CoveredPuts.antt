@@ -56,12 +56,17 @@ none-some (Some x) e h = absurd (cc)
 same-some : {X : Type 0} (x y : X) → Some x ≡ Some y → x ≡ y
 same-some x y e = cc
 
-came-some : (id : Number) (o : Option Note) → CameFrom id o → (note : Note) × (o ≡ Some note) × (note.origin ≡ id)
+pub came-some : (id : Number) (o : Option Note) → CameFrom id o → (note : Note) × (o ≡ Some note) × (note.origin ≡ id)
 came-some id None h = absurd h
 came-some id (Some note) h = (note, refl, h)
 
-same-ids : (x y : Number) (what : Request) → id_of what ≡ Some x → id_of what ≡ Some y → x ≡ y
+pub same-ids : (x y : Number) (what : Request) → id_of what ≡ Some x → id_of what ≡ Some y → x ≡ y
 same-ids x y what a b = same-some x y (sym a ∙ b)
+
+-- what has happened has happened in a longer history
+pub happened-later : (Q : Call → Type 0) (later earlier : List Call) (call : Call) → Happened Q (call ∷ earlier) → Happened Q (later ++ call ∷ earlier)
+happened-later Q [] earlier call h = h
+happened-later Q (c ∷ later) earlier call h = inr (happened-later Q later earlier call h)
 
 module _ (script : Script) (is : IsScript script) (row : RowNo) (below : row.0 < script.rows) (unit : ℕ) (inside : unit + 1 < script.n) (id : Number) where
   abbrev P : BayNo
@@ -82,14 +87,14 @@ module _ (script : Script) (is : IsScript script) (row : RowNo) (below : row.0 <
       (host : HostNo) (steps : Steps Finish) (r : HasHand script history host steps) → IsRecoveryOf row r.hand.task → note.id ≡ r.hand.id →
       (c : Call) (grant : Grant) → IsIn c (calls_at script history host) → IsClaim U row c → grant_of c.answer.reply ≡ Some grant → grant.last ≡ id
 
-  record Covers (history : List Call) (note : Note) : Type 0 where
-    noted : (ParityAt history).note ≡ Some note
-    origin : note.origin ≡ id
-    masked : has_unit note.mask unit ≡ true
-    last : IsSome (UnitAt history).cell → (UnitAt history).last ≡ id
-    shown : Shown history note
+  pub record Covers (history : List Call) (note : Note) : Type 0 where
+    pub noted : (ParityAt history).note ≡ Some note
+    pub origin : note.origin ≡ id
+    pub masked : has_unit note.mask unit ≡ true
+    pub last : IsSome (UnitAt history).cell → (UnitAt history).last ≡ id
+    pub shown : Shown history note
 
-  abbrev Covered : List Call → Type 0
+  abbrev pub Covered : List Call → Type 0
   Covered history = ((ParityAt history).cell ≡ None) ⊎ ((note : Note) × Covers history note)
 
   abbrev Turning : BayNo → List Call → Call → Type 0
@@ -321,11 +326,7 @@ module _ (script : Script) (is : IsScript script) (row : RowNo) (below : row.0 <
         by (Freed at id1 n what own free cell last) = absurd (not-freed note before put write id1 n at what own)
 
   -- Along a history
-  happened-later : (Q : Call → Type 0) (later earlier : List Call) (call : Call) → Happened Q (call ∷ earlier) → Happened Q (later ++ call ∷ earlier)
-  happened-later Q [] earlier call h = h
-  happened-later Q (c ∷ later) earlier call h = inr (happened-later Q later earlier call h)
-
-  covered : (later earlier : List Call) (call : Call) → IsHistory script (later ++ call ∷ earlier) → IsWrite script.n row id earlier → IsPut U row id call → IsDone call → (IsPutSince script.n row later → ⊥) →
+  pub covered : (later earlier : List Call) (call : Call) → IsHistory script (later ++ call ∷ earlier) → IsWrite script.n row id earlier → IsPut U row id call → IsDone call → (IsPutSince script.n row later → ⊥) →
       Covered (later ++ call ∷ earlier)
   covered [] earlier call along write (place, n, cell, what) done none = covered-now earlier call along n cell place what done write
   covered (c ∷ later) earlier call along write put done none =

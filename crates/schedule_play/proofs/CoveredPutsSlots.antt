@@ -107,6 +107,10 @@ put-last bay ask slot row id n cell what reply left (Leaves free reader found) i
 abbrev pub IsMaskClaim : BayNo → RowNo → Number → ℕ → Call → Type 0
 IsMaskClaim at row id mask call = (call.bay ≡ at) × (how : How) × (want : Bool) × (call.ask.what ≡ Claim row id how mask want)
 
+-- that was granted
+abbrev pub IsGrantedClaim : BayNo → RowNo → Number → ℕ → Call → Type 0
+IsGrantedClaim at row id mask call = IsMaskClaim at row id mask call × (grant : Grant) × (grant_of call.answer.reply ≡ Some grant)
+
 -- what a claim found that left this note: none, or one that it seized, whose origin and mask it handed on
 pub data Found (how : How) (seized : Option Note) (note : Note) : Type 0 where
   Anew : (none : seized ≡ None) (own : note.origin ≡ note.id) → Found how seized note
@@ -169,23 +173,32 @@ module _ (script : Script) (is : IsScript script) (at : BayNo) (row : RowNo) (be
       by (Marked place id n cell what done free last) = none free
       by (Freed place id n what own free cell last) = none free
 
-  -- a note has the origin and the mask of a claim
-  pub origin-claimed : (history : List Call) → IsHistory script history → (note : Note) → Noted history note → Happened (IsMaskClaim at row note.origin note.mask) history
-  origin-claimed [] along note noted = absurd (let bad : None ≡ Some note = ap (λ (s : Slot). s.note) (sym (starts-first script is at row below)) ∙ noted in cc)
-  origin-claimed (call ∷ earlier) along note noted = by (origin-claimed earlier along.0) (note-made earlier call along.1 note noted)
+  -- a note has the origin and the mask of a claim that was granted
+  pub origin-granted : (history : List Call) → IsHistory script history → (note : Note) → Noted history note → Happened (IsGrantedClaim at row note.origin note.mask) history
+  origin-granted [] along note noted = absurd (let bad : None ≡ Some note = ap (λ (s : Slot). s.note) (sym (starts-first script is at row below)) ∙ noted in cc)
+  origin-granted (call ∷ earlier) along note noted = by (origin-granted earlier along.0) (note-made earlier call along.1 note noted)
     where
-      made : ((n : Note) → Noted earlier n → Happened (IsMaskClaim at row n.origin n.mask) earlier) → (c : Claimed (bay_at script at earlier) at row call (bay_at script at (call ∷ earlier))) → (o : Option Note) →
-          (slot_at script earlier at row).note ≡ o → claimed_note call.ask c.id c.mask o ≡ note → Happened (IsMaskClaim at row note.origin note.mask) (call ∷ earlier)
-      made before c None e same = inl (c.place, c.how, c.want, c.what ∙ ap (λ (x : Note). Claim row x.origin c.how x.mask c.want) same)
+      made : ((n : Note) → Noted earlier n → Happened (IsGrantedClaim at row n.origin n.mask) earlier) → (c : Claimed (bay_at script at earlier) at row call (bay_at script at (call ∷ earlier))) → (o : Option Note) →
+          (slot_at script earlier at row).note ≡ o → claimed_note call.ask c.id c.mask o ≡ note → Happened (IsGrantedClaim at row note.origin note.mask) (call ∷ earlier)
+      made before c None e same =
+          inl ((c.place, c.how, c.want, c.what ∙ ap (λ (x : Note). Claim row x.origin c.how x.mask c.want) same), grant_at (bay_at script at earlier) (slot_at script earlier at row) c.want, c.grant)
       made before c (Some was) e same =
           inr
-          (subst (λ (id : Number). Happened (IsMaskClaim at row id note.mask) earlier) (ap (λ (x : Note). x.origin) same)
-          (subst (λ (mask : ℕ). Happened (IsMaskClaim at row was.origin mask) earlier) (ap (λ (x : Note). x.mask) same) (before was e)))
+          (subst (λ (id : Number). Happened (IsGrantedClaim at row id note.mask) earlier) (ap (λ (x : Note). x.origin) same)
+          (subst (λ (mask : ℕ). Happened (IsGrantedClaim at row was.origin mask) earlier) (ap (λ (x : Note). x.mask) same) (before was e)))
 
-      by : ((n : Note) → Noted earlier n → Happened (IsMaskClaim at row n.origin n.mask) earlier) → Noted earlier note ⊎ Made earlier call note → Happened (IsMaskClaim at row note.origin note.mask) (call ∷ earlier)
+      by : ((n : Note) → Noted earlier n → Happened (IsGrantedClaim at row n.origin n.mask) earlier) → Noted earlier note ⊎ Made earlier call note → Happened (IsGrantedClaim at row note.origin note.mask) (call ∷ earlier)
       by before (inl same) = inr (before note same)
       by before (inr m) =
           made before m.claimed (slot_at script earlier at row).note refl m.left
+
+  pub origin-claimed : (history : List Call) → IsHistory script history → (note : Note) → Noted history note → Happened (IsMaskClaim at row note.origin note.mask) history
+  origin-claimed history along note noted = claims history (origin-granted history along note noted)
+    where
+      claims : (calls : List Call) → Happened (IsGrantedClaim at row note.origin note.mask) calls → Happened (IsMaskClaim at row note.origin note.mask) calls
+      claims [] h = h
+      claims (c ∷ cs) (inl h) = inl h.0
+      claims (c ∷ cs) (inr h) = inr (claims cs h)
 
   -- what the claim found
   opened : (earlier : List Call) (call : Call) (note : Note) → Made earlier call note → Opened at row note call

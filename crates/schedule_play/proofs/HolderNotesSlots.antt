@@ -64,7 +64,7 @@ pub data Turned (old : Bay) (at : BayNo) (row : RowNo) (call : Call) (new : Bay)
   Cleared : (what : call.ask.what ≡ Lose) (note : (slot_of new row).note ≡ None) (cell : (slot_of new row).cell ≡ None) (life : new.life ≡ old.life + 1) → Turned old at row call new
   Renewed : (what : call.ask.what ≡ Fit) (was : old.empty ≡ true) (note : (slot_of new row).note ≡ None) (cell : (slot_of new row).cell ≡ None) (life : new.life ≡ old.life) → Turned old at row call new
 
-refused-none : (r : Reply) → is_refused r ≡ true → grant_of r ≡ None
+pub refused-none : (r : Reply) → is_refused r ≡ true → grant_of r ≡ None
 refused-none (Granted cell read_no write_no last life seized) e = absurd (cc)
 refused-none (Busy holder) e = refl
 refused-none (Late above) e = refl

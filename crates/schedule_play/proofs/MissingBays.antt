@@ -169,7 +169,7 @@ sent-errand host clock moment (Some errand) bay ask h =
 
 module _ (script : Script) (is : IsScript script) where
   -- the slot has a cell
-  abbrev Here : List Call → BayNo → RowNo → Type 0
+  abbrev pub Here : List Call → BayNo → RowNo → Type 0
   Here history at row = is_some (cell_at script history row at) ≡ true
 
   abbrev Any : BayNo → RowNo → Type 0
@@ -261,7 +261,7 @@ module _ (script : Script) (is : IsScript script) where
   every-host [] h host = begins-safe script is host Any (λ at row within below. tt)
   every-host (call ∷ earlier) h host = host-next earlier call h.1 host (every-host earlier h.0 host)
 
-  operator-safe : (history : List Call) → IsHistory script history → (host : HostNo) → host.0 ≡ 0 → Safe script is host (Here history) (progress_at script host history)
+  pub operator-safe : (history : List Call) → IsHistory script history → (host : HostNo) → host.0 ≡ 0 → Safe script is host (Here history) (progress_at script host history)
   operator-safe [] h host operator = begins-safe script is host (Here []) (λ at row within below. starts-here at row below)
   operator-safe (call ∷ earlier) h host operator =
       operator-next earlier call h.1 host operator (every-host earlier h.0 call.ask.host) (operator-safe earlier h.0 host operator)

@@ -38,7 +38,7 @@ abbrev IsDonePut : BayNo → RowNo → Number → Call → Type 0
 IsDonePut at row id call = IsPut at row id call × IsDone call
 
 -- a put of a slot is a call of it
-put-at : (at : BayNo) (row : RowNo) (id : Number) (call : Call) → IsPut at row id call → is_at at row call ≡ true
+pub put-at : (at : BayNo) (row : RowNo) (id : Number) (call : Call) → IsPut at row id call → is_at at row call ≡ true
 put-at at row id call (place, n, cell, what) =
     let same : call.bay.0 ≡ at.0 = ap (λ (b : BayNo). b.0) place in
     let here : (call.bay.0 == at.0) ≡ true = grind (arith, nat_tests) in

@@ -1,32 +1,30 @@
 -- Units take contents by puts of owners, and by puts of parities.
-use Rattle.std.proofs.Common.{◌≡◌, ◌⊎◌, inl, inr, refl, sym, ap, subst, ◌∙◌, ℕ, ◌+◌, ◌<◌, Bool, true, false, if◌then◌else◌, List, [], ◌∷◌, Option, Some, None}
+use Rattle.std.proofs.Common.{◌≡◌, inl, inr, refl, sym, subst, ℕ, ◌+◌, ◌<◌, Bool, true, false, if◌then◌else◌, List, [], ◌∷◌, Some}
 use Rattle.std.specs.List.{AllByRecursion}
-use Rattle.raid_base.specs.declared.numbers.BayNo.{BayNo}
 use Rattle.raid_base.specs.declared.numbers.HostNo.{HostNo}
 use Rattle.raid_base.specs.declared.numbers.RowNo.{RowNo}
 use Rattle.raid_base.specs.declared.numbers.Number.{Number}
 use Rattle.raid_base.specs.declared.cells.Cell.{Cell}
 use Rattle.raid_base.specs.declared.messages.Call.{Call}
-use Rattle.raid_base.specs.declared.messages.Errand.{Errand}
 use Rattle.raid_base.specs.declared.messages.Reply.{Reply}
 use Rattle.raid_base.specs.declared.messages.Reply.TheVariants.{Granted, Busy, Late, Young, Missing, Held, NoNote, Done, Fault, Emptied, Fitted}
 use Rattle.raid_base.specs.declared.messages.Request.{Request}
 use Rattle.raid_base.specs.declared.messages.Request.TheVariants.{Share, Claim, Confirm, Put, Release, Lose, Fit}
 use Rattle.raid_base.specs.Numbers.{sees}
 use Rattle.raid_base.specs.Replies.{is_done}
-use Rattle.raid_base.specs.Steps.{Commit, Steps, Standing, settled, behind, commits_next, next_errand, errand_of}
-use Rattle.stripe_layout.specs.Placement.{parity_bay, bay_of}
+use Rattle.raid_base.specs.Steps.{Commit, Standing, settled, behind, commits_next, errand_of}
+use Rattle.stripe_layout.specs.Placement.{parity_bay}
 use Rattle.attempts.specs.Taking.{Finish}
 use Rattle.script_text.specs.Script.{Script}
 use Rattle.script_text.specs.Ranges.{IsScript}
 use Rattle.host_engine.specs.Calls.{IsDone}
-use Rattle.host_engine.specs.Hands.{Led, InHand, HasWork, IsInHand}
+use Rattle.host_engine.specs.Hands.{Led, HasWork}
 use Rattle.host_engine.specs.Progress.{Work, Trying, Losing, Fitting, Over, Progress, attempt, work_errand}
 use Rattle.host_engine.specs.History.{progress_at, IsHistory}
 use Rattle.host_engine.proofs.Attempting.{hand-at, asked-errand}
-use Rattle.schedule_play.specs.Laws.{commits_in, commits_of}
-use Rattle.schedule_play.specs.Commits.{IsOwnPut, IsParityPut, IsGiven, CommitsAreOfOwners}
-use Rattle.schedule_play.proofs.CommitTrees.{CommitsUnit, CommitsRow, CommitsSo, EachCommits, settled-commits, behind-commits, next-commits, attempt-commits}
+use Rattle.schedule_play.specs.Laws.{commits_in}
+use Rattle.schedule_play.specs.Commits.{IsGiven, CommitsAreOfOwners}
+use Rattle.schedule_play.proofs.CommitTrees.{CommitsUnit, CommitsSo, EachCommits, settled-commits, behind-commits, next-commits, attempt-commits}
 use Rattle.schedule_play.proofs.OwnedPuts.{puts_are_of_owners}
 
 done-reply : (r : Reply) → is_done r ≡ true → r ≡ Done

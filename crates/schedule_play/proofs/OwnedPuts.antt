@@ -81,7 +81,7 @@ put-stays past slot bay Lose r i = i
 put-stays past slot bay Fit r i = i
 
 module _ (n : ℕ) (id : Number) where
-  none-put : (past : Past) (s : Steps Finish) → Keeps n id HasOnlyRead past s → (slot : phases.Slot) → IsIn slot past.put → ⊥
+  pub none-put : (past : Past) (s : Steps Finish) → Keeps n id HasOnlyRead past s → (slot : phases.Slot) → IsIn slot past.put → ⊥
   none-put past (Ends f) h slot i = subst (λ (slots : List phases.Slot). IsIn slot slots) h.put i
   none-put past (Draws k) h slot i =
       let d : Result Number Spent = Err (record { seen = number 0 }) in

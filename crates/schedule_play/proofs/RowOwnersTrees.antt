@@ -78,7 +78,7 @@ go-asking P calls (Some a) g s f on off = on a refl
 go-asking P calls None g s f on off = off refl
 
 -- and so does one over these errands
-walk-asking : {A B : Type 0} (P : List Call → Errand → Type 0) (phase : Phase A) (f : Walk A → Steps B) (e : Errand) (es : List Errand) (a : A) (calls : List Call) → P calls e →
+pub walk-asking : {A B : Type 0} (P : List Call → Errand → Type 0) (phase : Phase A) (f : Walk A → Steps B) (e : Errand) (es : List Errand) (a : A) (calls : List Call) → P calls e →
     ((call : Call) → errand_of call ≡ e → fits call.ask.what call.answer.reply ≡ true → (b : A) → phase.step a e call.answer.reply ≡ Some b → Asking P (call ∷ calls) (bind (run phase es b) f)) →
     ((call : Call) → errand_of call ≡ e → fits call.ask.what call.answer.reply ≡ true → phase.step a e call.answer.reply ≡ None → Asking P (call ∷ calls) (f (Stopped a e call.answer.reply))) →
     Asking P calls (bind (run phase (e ∷ es) a) f)
@@ -88,10 +88,10 @@ walk-asking P phase f e es a calls may on off = (
 )
 
 -- the same request, and bay
-what-is : (call : Call) (e : Errand) → errand_of call ≡ e → call.ask.what ≡ e.request
+pub what-is : (call : Call) (e : Errand) → errand_of call ≡ e → call.ask.what ≡ e.request
 what-is call e is = ap (λ (x : Errand). x.request) is
 
-bay-is : (call : Call) (e : Errand) → errand_of call ≡ e → call.bay ≡ e.bay
+pub bay-is : (call : Call) (e : Errand) → errand_of call ≡ e → call.bay ≡ e.bay
 bay-is call e is = ap (λ (x : Errand). x.bay) is
 
 -- Rebuilds. A request that takes

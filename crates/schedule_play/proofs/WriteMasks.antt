@@ -74,12 +74,12 @@ pub record WriteAsks (n : ℕ) (parts : List RowPart) (calls : List Call) (e : E
   pub frees : (row : RowNo) (id : Number) (number : Option Number) → e.request ≡ Release row id number → e.bay ≡ parity_bay n row → HasPutNothing calls
 
 -- Where the rows of the parts differ, the unit that is put is of the mask that was claimed
-has-row : (part : RowPart) (parts : List RowPart) → IsIn part parts → HasRow part.row parts
+pub has-row : (part : RowPart) (parts : List RowPart) → IsIn part parts → HasRow part.row parts
 has-row part [] i = absurd i
 has-row part (first ∷ parts) (inl same) = inl (ap (λ (p : RowPart). p.row) same)
 has-row part (first ∷ parts) (inr i) = inr (has-row part parts i)
 
-one-part : (parts : List RowPart) → RowsDiffer parts → (part other : RowPart) → IsIn part parts → IsIn other parts → part.row ≡ other.row → part ≡ other
+pub one-part : (parts : List RowPart) → RowsDiffer parts → (part other : RowPart) → IsIn part parts → IsIn other parts → part.row ≡ other.row → part ≡ other
 one-part [] differ part other i j same = absurd i
 one-part (first ∷ parts) differ part other (inl p) (inl q) same = sym p ∙ q
 one-part (first ∷ parts) differ part other (inl p) (inr j) same =
@@ -95,7 +95,7 @@ unit-masked parts differ row mask unit (part, i, at, is) (other, j, beside, has)
 
 -- Walks: J is known of the calls, and I of what is in hand
 module _ (P : List Call → Errand → Type 0) where
-  abbrev Fine : (List Call → Type 0) → Errand → Type 0
+  abbrev pub Fine : (List Call → Type 0) → Errand → Type 0
   Fine J e = (calls : List Call) → J calls → P calls e × ((call : Call) → errand_of call ≡ e → J (call ∷ calls))
 
   module _ {A : Type 0} (J : List Call → Type 0) (I : A → Type 0) where
@@ -104,7 +104,7 @@ module _ (P : List Call → Errand → Type 0) where
     ask-go calls (Some a) g s f i on off = on a i
     ask-go calls None g s f i on off = off
 
-    ask-run : (phase : Phase A) (f : Walk A → Steps Finish) → ((a : A) (e : Errand) (r : Reply) → I a → IfSome (phase.step a e r) I)
+    pub ask-run : (phase : Phase A) (f : Walk A → Steps Finish) → ((a : A) (e : Errand) (r : Reply) → I a → IfSome (phase.step a e r) I)
         → ((calls : List Call) (a : A) → J calls → I a → Asking P calls (f (Through a)))
         → ((calls : List Call) (a : A) (e : Errand) (r : Reply) → J calls → I a → Asking P calls (f (Stopped a e r)))
         → (es : List Errand) → AllByRecursion (Fine J) es → (a : A) (calls : List Call) → J calls → I a → Asking P calls (bind (run phase es a) f)
@@ -411,7 +411,7 @@ module _ (a : Access) (least : 3 ≤ a.n) where
       (λ cs t e r j i. write-stops t e r cs j) (parity_claim a part ∷ []) (early-parity part still.0, tt) (begun part done) calls none (still.0, are)
 
 -- each of these is among them
-each-is-in : {A : Type 0} (xs : List A) → AllByRecursion (λ (x : A). IsIn x xs) xs
+pub each-is-in : {A : Type 0} (xs : List A) → AllByRecursion (λ (x : A). IsIn x xs) xs
 each-is-in xs = from xs (λ x i. i)
   where
     from : (ys : List _) → ((y : _) → IsIn y ys → IsIn y xs) → AllByRecursion (λ (x : _). IsIn x xs) ys

@@ -12,7 +12,7 @@ use Rattle.script_text.specs.Script.{Script}
 use Rattle.script_text.specs.First.{IsFirstForm}
 use Rattle.host_engine.specs.History.{faults_in}
 use Rattle.schedule_play.specs.Turns.{all_ended, sim}
-use Rattle.schedule_play.specs.Headline.{IsSerialPlay, KeepsParity}
+use Rattle.schedule_play.specs.Headline.{IsSerialPlay}
 
 -- the object's one row
 abbrev pub only_row : RowNo
@@ -61,11 +61,6 @@ has_fault history = list_any (λ (call : Call). is_fault call.answer.reply) hist
 abbrev pub FirstPlaysAreSerial : Type 0
 FirstPlaysAreSerial = (script : Script) (history : List Call) (most : ℕ) → IsFirst script → history ≡ sim script (faults_in history) most →
     has_fault history ≡ false → all_ended script history ≡ true → IsSerialPlay script history
-
--- Each play of such a script without a fault keeps the parity, whether it has come to its end or not.
-abbrev pub FirstPlaysKeepParity : Type 0
-FirstPlaysKeepParity = (script : Script) (history : List Call) (most : ℕ) → IsFirst script → history ≡ sim script (faults_in history) most →
-    has_fault history ≡ false → KeepsParity script history
 
 -- Each script of the first form, as its text is read, is such a script.
 abbrev pub FirstFormsAreFirst : Type 0

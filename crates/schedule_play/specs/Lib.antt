@@ -15,3 +15,4 @@ pub mod Hands
 pub mod Holding
 pub mod Commits
 pub mod Lone
+pub mod Contents

@@ -1,9 +1,10 @@
 //! Laws of plays, each the contract of a function without a body.
 ghost use Rattle.schedule_play.specs.Commits.{CommitsAreOfOwners};
-ghost use Rattle.schedule_play.specs.FirstForm.{FirstPlaysAreSerial, FirstPlaysKeepParity, FirstFormsAreFirst};
+ghost use Rattle.schedule_play.specs.Contents.{ContentsAreCovered, RowsHoldContents, ContentsAreShown};
+ghost use Rattle.schedule_play.specs.FirstForm.{FirstPlaysAreSerial, FirstFormsAreFirst};
 ghost use Rattle.schedule_play.specs.Holding.{BlankNotesMend, UnitsAreOfWrites, AnsweredAreFree, HoldersKeepNotes, PuttersOwnRows, PutsAreOfOwners};
 ghost use Rattle.schedule_play.specs.Ids.{IdsAreApart};
-ghost use Rattle.schedule_play.specs.Laws.{OneIsMissing, AccessesAreCovered, NumbersRise, PutsAreCovered, LostBlocksAreTorn};
+ghost use Rattle.schedule_play.specs.Laws.{OneIsMissing, AccessesAreCovered, NumbersRise, PutsAreCovered, CellsAreCommitted, ParityIsCovered, ParityIsKept, LostBlocksAreTorn};
 ghost use Rattle.schedule_play.specs.Leftovers.{RefusedLeaveNothing};
 ghost use Rattle.schedule_play.specs.Lone.{LoneHostsAreDone};
 
@@ -12,12 +13,6 @@ ghost use Rattle.schedule_play.specs.Lone.{LoneHostsAreDone};
 /// is seen at the end.
 pub fn first_plays_are_serial()
     ensures { FirstPlaysAreSerial }
-{}
-
-/// Each such play in which no store fails keeps the parity, at its end and before: after every call a closed row without
-/// a missing slot is sound.
-pub fn first_plays_keep_parity()
-    ensures { FirstPlaysKeepParity }
 {}
 
 /// What `script_text::read_first` takes for a script is such a script.
@@ -109,6 +104,38 @@ pub fn puts_are_covered()
 /// and that was to put this unit or has put another one of the row.
 pub fn lost_blocks_are_torn()
     ensures { LostBlocksAreTorn }
+{}
+
+/// Contents are covered: after every history of a script, where a unit's content is not the one that stood when the parity of its
+/// row was put last, the parity has no cell, or a note that has the unit and came from a write that has put it.
+pub fn contents_are_covered()
+    ensures { ContentsAreCovered }
+{}
+
+/// Rows hold their contents: after every history of a script each slot that has a cell has the one that is due. A unit has that of
+/// the content that it took last, with its mark, and the parity that of the contents that stood when it was put last.
+pub fn rows_hold_contents()
+    ensures { RowsHoldContents }
+{}
+
+/// Each unit that has a cell has the content that it took last.
+pub fn cells_are_committed()
+    ensures { CellsAreCommitted }
+{}
+
+/// What is shown of a unit, also of one that the others of its row make, is the content that it took last.
+pub fn contents_are_shown()
+    ensures { ContentsAreShown }
+{}
+
+/// A parity that has no note is sound with its row, a missing unit being what the others make of it.
+pub fn parity_is_covered()
+    ensures { ParityIsCovered }
+{}
+
+/// The parity is kept: after every call of every history of a script each closed row without a missing slot is sound.
+pub fn parity_is_kept()
+    ensures { ParityIsKept }
 {}
 
 /// Numbers rise: along every history of a script the number of a put that was done is above those of all earlier writes and reads
