@@ -16,3 +16,4 @@ pub mod Holding
 pub mod Commits
 pub mod Lone
 pub mod Contents
+pub mod Effects

@@ -1,6 +1,7 @@
 //! Laws of plays, each the contract of a function without a body.
 ghost use Rattle.schedule_play.specs.Commits.{CommitsAreOfOwners};
 ghost use Rattle.schedule_play.specs.Contents.{ContentsAreCovered, RowsHoldContents, ContentsAreShown};
+ghost use Rattle.schedule_play.specs.Effects.{AttemptsTellCommits};
 ghost use Rattle.schedule_play.specs.FirstForm.{FirstPlaysAreSerial, FirstFormsAreFirst};
 ghost use Rattle.schedule_play.specs.Holding.{BlankNotesMend, UnitsAreOfWrites, AnsweredAreFree, HoldersKeepNotes, PuttersOwnRows, PutsAreOfOwners};
 ghost use Rattle.schedule_play.specs.Ids.{IdsAreApart};
@@ -142,4 +143,10 @@ pub fn parity_is_kept()
 /// of its slot, and the number of a read is above those of all earlier writes.
 pub fn numbers_rise()
     ensures { NumbersRise }
+{}
+
+/// An attempt tells by its end what it has committed: a write just the blocks that it tells as made, all where it is done and none
+/// where it is refused, a recovery the unit that it names lost, and a read or a rebuild nothing.
+pub fn attempts_tell_commits()
+    ensures { AttemptsTellCommits }
 {}
