@@ -55,7 +55,7 @@ module _ (script : Script) (is : IsScript script) (earlier : List Call) (call : 
   P = parity_bay script.n row
 
   -- a unit that has no cell gets none
-  unit-bare : (unit : ℕ) → unit + 1 < script.n → cell_at script earlier row (bay_of script.n row unit) ≡ None → cell_at script (call ∷ earlier) row (bay_of script.n row unit) ≡ None
+  pub unit-bare : (unit : ℕ) → unit + 1 < script.n → cell_at script earlier row (bay_of script.n row unit) ≡ None → cell_at script (call ∷ earlier) row (bay_of script.n row unit) ≡ None
   unit-bare unit inside none = by (cell-turned script is earlier call along.1 (bay_of script.n row unit) row below)
     where
       by : CellTurn (cell_at script earlier row (bay_of script.n row unit)) (bay_of script.n row unit) row call (cell_at script (call ∷ earlier) row (bay_of script.n row unit)) →
@@ -123,13 +123,13 @@ module _ (script : Script) (is : IsScript script) (earlier : List Call) (call : 
 
     -- A recovery
     module _ (at : RowNo) (recovers : h.hand.task ≡ tasks.Recover at) where
-      here : row ≡ at
+      pub here : row ≡ at
       here = ((recovery-asks claims_are_of_their_kind script is earlier along.0 call.ask.host steps h (errand_of call) asked at recovers).puts row id k cell what).0
 
       abbrev Mixed : Cells
       Mixed = table script.n (base_at script earlier) (content_at script earlier)
 
-      shown : IsRecoveryShown script earlier call.ask.host row
+      pub shown : IsRecoveryShown script earlier call.ask.host row
       shown =
           hands.recoveries call.ask.host steps h row below (subst (IsRecoveryOf row) (sym recovers) (sym here))
           (own-noted script is earlier call along row below (P) id k cell place what done steps h asked)
@@ -163,7 +163,7 @@ module _ (script : Script) (is : IsScript script) (earlier : List Call) (call : 
       committed : commits_of script earlier call ≡ commits_next steps
       committed = commits-are script is earlier call steps h asked done
 
-      all-lost : AreSo row (λ unit. Lost) WasMissing (commits_of script earlier call)
+      pub all-lost : AreSo row (λ unit. Lost) WasMissing (commits_of script earlier call)
       all-lost = subst (λ (cs : List Commit). AreSo row (λ unit. Lost) WasMissing cs) (sym committed) (each-lost (commits_next steps) commits_lost)
 
       good : (unit : ℕ) → unit + 1 < script.n → Good script (call ∷ earlier) row unit

@@ -86,7 +86,7 @@ module _ (script : Script) (is : IsScript script) (earlier : List Call) (call : 
           (led-asking PutsNone Host (settled Host h.hand.id (Start h.hand.task)) Calls (Stand) (settled-asking PutsNone Host h.hand.id [] (Start h.hand.task) none) (led-as h.hand.task refl)) asked in
           absurd (next row id k cell what)
 
-  committing : (P : List Call → Errand → List Commit → Type 0) (task : Task) → h.hand.task ≡ task → Committing P [] (Start task) → P Calls (errand_of call) (commits_next steps)
+  pub committing : (P : List Call → Errand → List Commit → Type 0) (task : Task) → h.hand.task ≡ task → Committing P [] (Start task) → P Calls (errand_of call) (commits_next steps)
   committing P task same begins =
       next-committing P Calls steps (errand_of call)
       (led-committing P Host (settled Host h.hand.id (Start task)) Calls (Stand) (settled-committing P Host h.hand.id [] (Start task) begins) (led-as task same)) asked

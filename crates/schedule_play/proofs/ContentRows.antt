@@ -12,10 +12,10 @@ use Rattle.schedule_play.proofs.ContentWrites.{writes-next}
 use Rattle.schedule_play.proofs.ContentWriteParity.{OwnedBlocks}
 use Rattle.schedule_play.proofs.ContentHolds.{holds-first, owned-first, shown-first, holds-next, owned-next}
 
-record Stands (script : Script) (history : List Call) : Type 0 where
-  holds : AllHold script history
-  owned : OwnedBlocks script history
-  shown : AreHandsShown script history
+pub record Stands (script : Script) (history : List Call) : Type 0 where
+  pub holds : AllHold script history
+  pub owned : OwnedBlocks script history
+  pub shown : AreHandsShown script history
 
 module _ (script : Script) (is : IsScript script) where
   stands-next : (earlier : List Call) (call : Call) → IsHistory script (call ∷ earlier) → Stands script earlier → Stands script (call ∷ earlier)
@@ -31,7 +31,7 @@ module _ (script : Script) (is : IsScript script) where
         };
       }
 
-  stands : (history : List Call) → IsHistory script history → Stands script history
+  pub stands : (history : List Call) → IsHistory script history → Stands script history
   stands [] along = record { holds = holds-first script is; owned = owned-first script; shown = shown-first script is }
   stands (call ∷ earlier) along = stands-next earlier call along (stands earlier along.0)
 

@@ -63,7 +63,7 @@ came-some : (id : Number) (o : Option Note) → CameFrom id o → (note : Note) 
 came-some id None h = absurd h
 came-some id (Some note) h = (note, refl, h)
 
-one-origin : (x y : Number) (o : Option Note) → CameFrom x o → CameFrom y o → x ≡ y
+pub one-origin : (x y : Number) (o : Option Note) → CameFrom x o → CameFrom y o → x ≡ y
 one-origin x y None a b = absurd a
 one-origin x y (Some note) a b = sym a ∙ b
 
@@ -80,7 +80,7 @@ both true b h = (refl, h)
 both false b h = absurd (cc)
 
 -- a put that was done
-done-put : (what : Request) (reply : Reply) → is_some (write_of what reply) ≡ true → (row : RowNo) × (id : Number) × (n : Number) × (cell : Cell) × (what ≡ Put row id n cell) × (reply ≡ Done)
+pub done-put : (what : Request) (reply : Reply) → is_some (write_of what reply) ≡ true → (row : RowNo) × (id : Number) × (n : Number) × (cell : Cell) × (what ≡ Put row id n cell) × (reply ≡ Done)
 done-put (Put row id n cell) Done e = (row, id, n, cell, refl, refl)
 done-put (Put row id n cell) (Granted found read_no write_no last life seized) e = absurd (cc)
 done-put (Put row id n cell) (Busy holder) e = absurd (cc)
@@ -174,7 +174,7 @@ module _ (script : Script) (is : IsScript script) (row : RowNo) (below : row.0 <
 
   -- A call
   module _ (earlier : List Call) (call : Call) (along : IsHistory script (call ∷ earlier)) where
-    put-bares : (id n : Number) (cell : Cell) → call.bay ≡ P → call.ask.what ≡ Put row id n cell → IsDone call → (ParityAt (call ∷ earlier)).note ≡ None
+    pub put-bares : (id n : Number) (cell : Cell) → call.bay ≡ P → call.ask.what ≡ Put row id n cell → IsDone call → (ParityAt (call ∷ earlier)).note ≡ None
     put-bares id n cell place what done = by (moved script is earlier call along.1 (P) row below)
       where
         itself : is_at (P) row call ≡ true
@@ -243,7 +243,7 @@ module _ (script : Script) (is : IsScript script) (row : RowNo) (below : row.0 <
     next = awake script is history along host steps h
 
     -- its note stands on no blank slot
-    not-blank : (at : BayNo) → at.0 < script.n → (note : Note) → (slot_at script history at row).note ≡ Some note → note.id ≡ h.hand.id → cell_at script history row at ≡ None → ⊥
+    pub not-blank : (at : BayNo) → at.0 < script.n → (note : Note) → (slot_at script history at row).note ≡ Some note → note.id ≡ h.hand.id → cell_at script history row at ≡ None → ⊥
     not-blank at within note noted named none =
         let mended = blank_notes_mend script history is along at row note within below none noted in
         let kind : kind_of h.hand.task ≡ Mend = mends claims_are_of_their_kind script is history along host steps h (next).0 (next).1 at row note named mended.0 in

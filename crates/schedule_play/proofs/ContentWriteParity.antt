@@ -154,11 +154,11 @@ module _ (script : Script) (is : IsScript script) (earlier : List Call) (call : 
   not-mending : kind_of h.hand.task ≡ Mend → ⊥
   not-mending e = let bad : kind_of (tasks.Write object first from count) ≡ Mend = subst (λ (t : Task). kind_of t ≡ Mend) writes e in absurd (cc)
 
-  came : CameFrom h.hand.id (slot_at script earlier (P) row).note
+  pub came : CameFrom h.hand.id (slot_at script earlier (P) row).note
   came = own-origin script is earlier call along row below (P) id k cell place what done steps h asked not-seizing
 
   -- the parity has a cell
-  there : cell_at script earlier row (P) ≡ None → ⊥
+  pub there : cell_at script earlier row (P) ≡ None → ⊥
   there none =
       let found = has-noted (slot_at script earlier (P) row).note h.hand.id (own-noted script is earlier call along row below (P) id k cell place what done steps h asked) in
       let blank = blank_notes_mend script earlier is along.0 (P) row found.0 (parity-below script.n row (let least = is.devices_least in omega (arith, least))) below none found.1 in
@@ -168,7 +168,7 @@ module _ (script : Script) (is : IsScript script) (earlier : List Call) (call : 
   held unit inside = (hands.writes (Host) steps h row below is-write).held came unit inside
 
   -- what its part of the row has settled
-  settles : (part : RowPart) × PartOf (Acc).parts row part × AreSettled (Acc) part Calls (commits_next steps)
+  pub settles : (part : RowPart) × PartOf (Acc).parts row part × AreSettled (Acc) part Calls (commits_next steps)
   settles = (put-settles script is earlier call steps h asked object first from count writes).parity_put row id k cell what place
 
   abbrev Part : RowPart
@@ -184,7 +184,7 @@ module _ (script : Script) (is : IsScript script) (earlier : List Call) (call : 
   abbrev IsGone : ℕ → Type 0
   IsGone unit = (has_unit (Part).mask unit ≡ true) × WasGone script.n row unit Calls
 
-  gone-bare : (unit : ℕ) → unit + 1 < script.n → WasGone script.n row unit Calls → cell_at script earlier row (bay_of script.n row unit) ≡ None
+  pub gone-bare : (unit : ℕ) → unit + 1 < script.n → WasGone script.n row unit Calls → cell_at script earlier row (bay_of script.n row unit) ≡ None
   gone-bare unit inside (inl missing) = (held unit inside).missing missing
   gone-bare unit inside (inr (grant, life, put, granted, unnoted, other)) = (held unit inside).lost grant life put granted unnoted other
 

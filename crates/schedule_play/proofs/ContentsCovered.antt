@@ -55,7 +55,7 @@ record LastOf (P : Commit → Type 0) (row : RowNo) (unit : ℕ) (commits : List
   same : content ≡ commit.content
   some : commits ≡ [] → ⊥
 
-of-this : (row : RowNo) (unit : ℕ) (commit : Commit) → is_of row unit commit ≡ true → (commit.row ≡ row) × (commit.unit ≡ unit)
+pub of-this : (row : RowNo) (unit : ℕ) (commit : Commit) → is_of row unit commit ≡ true → (commit.row ≡ row) × (commit.unit ≡ unit)
 of-this row unit commit e =
     let two = both (commit.row.0 == row.0) (commit.unit == unit) e in
     let rows : (commit.row.0 == row.0) ≡ true = two.0 in

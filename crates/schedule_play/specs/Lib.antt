@@ -17,3 +17,4 @@ pub mod Commits
 pub mod Lone
 pub mod Contents
 pub mod Effects
+pub mod Rising

@@ -8,6 +8,7 @@ ghost use Rattle.schedule_play.specs.Ids.{IdsAreApart};
 ghost use Rattle.schedule_play.specs.Laws.{OneIsMissing, AccessesAreCovered, NumbersRise, PutsAreCovered, CellsAreCommitted, ParityIsCovered, ParityIsKept, LostBlocksAreTorn};
 ghost use Rattle.schedule_play.specs.Leftovers.{RefusedLeaveNothing};
 ghost use Rattle.schedule_play.specs.Lone.{LoneHostsAreDone};
+ghost use Rattle.schedule_play.specs.Rising.{ContentsRise};
 
 /// One host writes a block of a row of two units under stamps, and then reads it. Each such play in which no store fails
 /// and which comes to its end is serial: its results and contents are those of a serial array, and so is each block that
@@ -149,4 +150,10 @@ pub fn numbers_rise()
 /// where it is refused, a recovery the unit that it names lost, and a read or a rebuild nothing.
 pub fn attempts_tell_commits()
     ensures { AttemptsTellCommits }
+{}
+
+/// Contents rise: along every history of a script each content that a unit takes has a number above those that it took
+/// before, so that the last one has the greatest.
+pub fn contents_rise()
+    ensures { ContentsRise }
 {}
