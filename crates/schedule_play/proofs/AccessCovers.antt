@@ -62,7 +62,7 @@ release-reads reading id by row n h e = let bad : Some n ≡ None = h.1 e in cc
 same-number : (x y : Number) → (x.0 == y.0) ≡ true → x ≡ y
 same-number x y e = let same : x.0 ≡ y.0 = grind (arith, nat_tests) in ap (λ (k : ℕ). record { 0 = k }) same
 
-free-hand : (host : HostNo) (earlier : List Call) (at : BayNo) (row : RowNo) (note : Note) (p : Progress) (work : Work) (call : Call) (id n : Number) →
+pub free-hand : (host : HostNo) (earlier : List Call) (at : BayNo) (row : RowNo) (note : Note) (p : Progress) (work : Work) (call : Call) (id n : Number) →
     HasWork host earlier p.seen p.calls work → work_errand work ≡ Some (errand_of call) → call.ask.what ≡ Release row id (Some n) →
     note.id ≡ id → Happened (IsNoteClaim at row note) earlier → ⊥
 free-hand host earlier at row note p (Trying steps) call id n w asked is same h =
@@ -248,7 +248,7 @@ module _ (script : Script) (is : IsScript script) (at : BayNo) (row : RowNo) (be
     step here = subst (λ (r : Reply). RowStep bay call.ask row r after) (sym (reply-is here)) (row_step bay call.ask fails row within)
 
     -- no note of the slot has the id of a release with a number
-    unnoted : (by : RowNo) (id m : Number) → call.ask.what ≡ Release by id (Some m) → slots.is_row row (serving.row_of call.ask.what) ≡ true →
+    pub unnoted : (by : RowNo) (id m : Number) → call.ask.what ≡ Release by id (Some m) → slots.is_row row (serving.row_of call.ask.what) ≡ true →
         (o : Option Note) → (slot_of bay row).note ≡ o → note_id o id ≡ false
     unnoted by id m asks mine None held = refl
     unnoted by id m asks mine (Some note) held = decide (note.id.0 == id.0) refl

@@ -76,7 +76,7 @@ module _ (script : Script) (is : IsScript script) where
   pub block-long : (id : Number) (parts : List RowPart) (from count : ℕ) (part : RowPart) (unit : ℕ) → length (block_at (access script id parts (blocks_of script from count)) part unit) ≡ 64
   block-long id parts from count part unit = long-at (blocks_of script from count) (block_no (access script id parts (blocks_of script from count)) part unit) (script-long from count)
 
-  found-so : (object : Name) (first count : ℕ) (parts : List RowPart) → 1 ≤ count → parts_of script object first count ≡ Ok parts → ArePartsOf script.n script.objects object first count parts
+  pub found-so : (object : Name) (first count : ℕ) (parts : List RowPart) → 1 ≤ count → parts_of script object first count ≡ Ok parts → ArePartsOf script.n script.objects object first count parts
   found-so object first count parts some ok = by (rows_of script.objects object) refl ok
     where
       by : (found : Option (List RowNo)) → rows_of script.objects object ≡ found → parts_found (script.n - 1) first count found ≡ Ok parts → ArePartsOf script.n script.objects object first count parts
@@ -85,7 +85,7 @@ module _ (script : Script) (is : IsScript script) where
           are_parts script.n first count script.objects object rows parts (let h = is.devices_least in omega arith) some found is.objects.rows_apart ok
 
   -- the row of a part is one of its object
-  rows-below : (object : Name) (first : ℕ) (parts : List RowPart) → AllByRecursion (IsPart script.n) parts →
+  pub rows-below : (object : Name) (first : ℕ) (parts : List RowPart) → AllByRecursion (IsPart script.n) parts →
       AllByRecursion (λ (part : RowPart). (k : ℕ) → k < part.count → place script.n script.objects (record { object = object; block = first + part.at + k }) ≡ Some (part.row, slice_index_or (units_in script.n part.mask) k 0)) parts →
       AllByRecursion (λ (part : RowPart). part.row.0 < script.rows) parts
   rows-below object first [] each placed = tt

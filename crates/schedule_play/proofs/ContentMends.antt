@@ -206,7 +206,7 @@ module _ (script : Script) (is : IsScript script) where
     abbrev Parity : BayNo
     Parity = parity_bay script.n row
 
-    blank-before : (earlier : List Call) (call : Call) → IsHistory script (call ∷ earlier) → (id : Number) → HasNote id (slot_at script (call ∷ earlier) (parity_bay script.n row) row).note →
+    pub blank-before : (earlier : List Call) (call : Call) → IsHistory script (call ∷ earlier) → (id : Number) → HasNote id (slot_at script (call ∷ earlier) (parity_bay script.n row) row).note →
         cell_at script (call ∷ earlier) row (parity_bay script.n row) ≡ None → cell_at script earlier row (parity_bay script.n row) ≡ None
     blank-before earlier call along id noted none = by (turned script is (Parity) row below earlier call along.1)
       where

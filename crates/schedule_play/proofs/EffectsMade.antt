@@ -158,7 +158,7 @@ module _ (a : Access) where
       let later : at + first.count ≤ part.at = block-from parts (at + first.count) turn.1 part i in
       omega arith
 
-  block-below : (part : RowPart) → IsPart a.n part → (u : ℕ) → IsIn u (units_in a.n part.mask) → block_no a part u < part.at + part.count
+  pub block-below : (part : RowPart) → IsPart a.n part → (u : ℕ) → IsIn u (units_in a.n part.mask) → block_no a part u < part.at + part.count
   block-below part is u i =
       let less : rank u (units_in a.n part.mask) < length (units_in a.n part.mask) = rank-less u (units_in a.n part.mask) i in
       let counted : length (units_in a.n part.mask) ≡ part.count = is.counted in

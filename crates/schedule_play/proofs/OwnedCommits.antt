@@ -27,7 +27,7 @@ use Rattle.schedule_play.specs.Commits.{IsGiven, CommitsAreOfOwners}
 use Rattle.schedule_play.proofs.CommitTrees.{CommitsUnit, CommitsSo, EachCommits, settled-commits, behind-commits, next-commits, attempt-commits}
 use Rattle.schedule_play.proofs.OwnedPuts.{puts_are_of_owners}
 
-done-reply : (r : Reply) → is_done r ≡ true → r ≡ Done
+pub done-reply : (r : Reply) → is_done r ≡ true → r ≡ Done
 done-reply Done e = refl
 done-reply (Granted cell read_no write_no last life seized) e = absurd (cc)
 done-reply (Busy holder) e = absurd (cc)

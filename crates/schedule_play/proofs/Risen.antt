@@ -70,7 +70,7 @@ written-as Lose reply n h = absurd (let bad : None ≡ Some n = h in cc)
 written-as Fit reply n h = absurd (let bad : None ≡ Some n = h in cc)
 
 -- a read is under stamps a share that was granted
-shown-as : (row : RowNo) (id : Number) (want : Bool) (reply : Reply) (n : Number) → read_of Order (Share row id want) reply ≡ Some n → (id ≡ n) × IsSome (grant_of reply)
+pub shown-as : (row : RowNo) (id : Number) (want : Bool) (reply : Reply) (n : Number) → read_of Order (Share row id want) reply ≡ Some n → (id ≡ n) × IsSome (grant_of reply)
 shown-as row id want (Granted cell read_no write_no last life seized) n h = (cc, refl)
 shown-as row id want (Busy holder) n h = absurd (let bad : None ≡ Some n = h in cc)
 shown-as row id want (Late above) n h = absurd (let bad : None ≡ Some n = h in cc)
@@ -130,10 +130,10 @@ module _ (bay : Bay) (ask : Ask) (slot : Slot) where
   share-shown row id want what reply left (Leaves free reader found) is some = absurd (cc)
 
   -- a release that was done found a note or a reader
-  abbrev Found : Number → Type 0
+  abbrev pub Found : Number → Type 0
   Found id = (note_id slot.note id ≡ true) ⊎ ((reader : Reader) × (find (is_reader id) slot.readers ≡ Some reader))
 
-  release-found : (row : RowNo) (id : Number) (n : Option Number) (what : Request) (reply : Reply) (left : Slot) → Does bay ask slot what reply left → what ≡ Release row id n → reply ≡ Done → Found id
+  pub release-found : (row : RowNo) (id : Number) (n : Option Number) (what : Request) (reply : Reply) (left : Slot) → Does bay ask slot what reply left → what ≡ Release row id n → reply ≡ Done → Found id
   release-found row id n what reply left (Refuses r refused missing) is done = absurd (let bad : false ≡ true = ap is_refused (sym done) ∙ refused in cc)
   release-found row id n what reply left (Closes there none) is done = absurd (cc)
   release-found row id n what reply left (Grants claims) is done = absurd (cc)

@@ -44,12 +44,13 @@ use Rattle.schedule_play.proofs.AccessHosts.{note-covers, reply-covers}
 use Rattle.schedule_play.proofs.HandClaims.{kind_of}
 use Rattle.schedule_play.proofs.HandMoves.{may-next}
 use Rattle.schedule_play.proofs.RisenTrees.{Frees, attempt-frees}
+use Rattle.schedule_play.proofs.NumberTrees.{TellsNumber, reads-number, writes-number, mends-number, recoveries-number}
 
 -- all that these calls were shown is below
 abbrev pub ShownBelow : ℕ → List Call → Type 0
 ShownBelow m calls = AllByRecursion (λ (c : Call). (k : Number) → ShowsNumber c.answer.reply k → k.0 < m) calls
 
-shown-more : (m later : ℕ) → m ≤ later → (calls : List Call) → ShownBelow m calls → ShownBelow later calls
+pub shown-more : (m later : ℕ) → m ≤ later → (calls : List Call) → ShownBelow m calls → ShownBelow later calls
 shown-more m later le [] h = tt
 shown-more m later le (c ∷ calls) h = (λ k s. let low = h.0 k s in omega (arith, le, low), shown-more m later le calls h.1)
 
@@ -58,7 +59,7 @@ origin-seen : (seen : Number) (o : Option Note) (n : Number) → IsOrigin o n �
 origin-seen seen None n is = absurd is
 origin-seen seen (Some note) n is = let same = ap (λ (x : Number). x.0) is in omega (arith, same)
 
-shown-seen : (seen : Number) (r : Reply) (n : Number) → ShowsNumber r n → n.0 ≤ (sees seen r).0
+pub shown-seen : (seen : Number) (r : Reply) (n : Number) → ShowsNumber r n → n.0 ≤ (sees seen r).0
 shown-seen seen (Granted cell read_no write_no last life seized) n (inl is) =
     let same = ap (λ (x : Number). x.0) is in let more = note-covers (greater seen (greater read_no write_no)) seized in omega (arith, same, more)
 shown-seen seen (Granted cell read_no write_no last life seized) n (inr (inl is)) =
@@ -116,7 +117,7 @@ late-asks n id past bay (Release row by m) r may late fit = record { late = omeg
 late-asks n id past bay Lose r may late fit = absurd may
 late-asks n id past bay Fit r may late fit = absurd may
 
-number-kept : (past : Past) (bay : BayNo) (what : Request) (r : Reply) → (after_asking past bay what r).number ≡ past.number
+pub number-kept : (past : Past) (bay : BayNo) (what : Request) (r : Reply) → (after_asking past bay what r).number ≡ past.number
 number-kept past bay (Share row by want) r = refl
 number-kept past bay (Claim row by how mask want) r = refl
 number-kept past bay (Confirm row by want) r = refl
@@ -140,6 +141,7 @@ pub record Numbered (n : ℕ) (id : Number) (mode : Mode) (kind : How) (host : H
   pub past : Past
   pub keeps : Keeps n id Any past now.steps
   pub frees : Frees past.number now.steps
+  pub tells : TellsNumber past.number now.steps
   pub low : id.0 ≤ now.seen.0
   pub shown : ShownBelow (now.seen.0 + 1) calls
   pub number : (m : Number) → past.number ≡ Some m → HasNumber id mode kind host past calls now.seen m
@@ -148,7 +150,7 @@ module _ (n : ℕ) (id : Number) (mode : Mode) (kind : How) (host : HostNo) (few
   abbrev Stands : List Call → Number → Steps Finish → Type 0
   Stands calls seen s = Numbered n id mode kind host calls (record { seen = seen; steps = s })
 
-  draws-numbered : (calls : List Call) (seen : Number) (k : Result Number Spent → Steps Finish) (d : Result Number Spent) → draw host seen ≡ d → Stands calls seen (Draws k) →
+  pub draws-numbered : (calls : List Call) (seen : Number) (k : Result Number Spent → Steps Finish) (d : Result Number Spent) → draw host seen ≡ d → Stands calls seen (Draws k) →
       Stands calls (seen_drawn seen d) (k d)
   draws-numbered calls seen k (Ok m) e h =
       let drawn = draws-above host seen m few e in
@@ -159,6 +161,7 @@ module _ (n : ℕ) (id : Number) (mode : Mode) (kind : How) (host : HostNo) (few
         past = after_number h.past (Ok m);
         keeps = h.keeps.2 (Ok m);
         frees = h.frees (Ok m);
+        tells = h.tells (Ok m);
         low = omega (arith, above, low);
         shown = shown-more m.0 (m.0 + 1) (omega arith) calls below;
         number = λ j is.
@@ -170,6 +173,7 @@ module _ (n : ℕ) (id : Number) (mode : Mode) (kind : How) (host : HostNo) (few
     past = after_number h.past (Err spent);
     keeps = h.keeps.2 (Err spent);
     frees = h.frees (Err spent);
+    tells = h.tells (Err spent);
     low = h.low;
     shown = h.shown;
     number = λ j is. absurd (let bad : None ≡ Some j = sym h.keeps.0 ∙ is in cc);
@@ -180,7 +184,7 @@ module _ (n : ℕ) (id : Number) (mode : Mode) (kind : How) (host : HostNo) (few
   settled-numbered calls seen (Draws k) h = settled-numbered calls (seen_drawn seen (draw host seen)) (k (draw host seen)) (draws-numbered calls seen k (draw host seen) refl h)
   settled-numbered calls seen (Ends f) h = h
 
-  told-number : (calls : List Call) (seen : Number) (call : Call) (past : Past) → MayAsk n id past call.bay call.ask.what → fits call.ask.what call.answer.reply ≡ true → (m : Number) →
+  pub told-number : (calls : List Call) (seen : Number) (call : Call) (past : Past) → MayAsk n id past call.bay call.ask.what → fits call.ask.what call.answer.reply ≡ true → (m : Number) →
       HasNumber id mode kind host past calls seen m → HasNumber id mode kind host (after past (errand_of call) call.answer.reply) (call ∷ calls) (sees seen call.answer.reply) m
   told-number calls seen call past may fit m h = record { is = by h.is; low = let low = h.low in let more = reply-covers seen call.answer.reply in omega (arith, low, more); own = h.own }
     where
@@ -203,6 +207,7 @@ module _ (n : ℕ) (id : Number) (mode : Mode) (kind : How) (host : HostNo) (few
         past = after h.past (errand_of call) r;
         keeps = subst (λ (x : Errand). Keeps n id Any (after h.past x r) (k r)) is (h.keeps.1 r);
         frees = subst (λ (o : Option Number). Frees o (k r)) (sym (number-kept h.past call.bay call.ask.what r)) (h.frees.1 r);
+        tells = subst (λ (o : Option Number). TellsNumber o (k r)) (sym (number-kept h.past call.bay call.ask.what r)) (h.tells.1 r);
         low = omega (arith, more, low);
         shown = (λ j s. let le = shown-seen seen r j s in omega (arith, le), shown-more (seen.0 + 1) ((sees seen r).0 + 1) (omega (arith, more)) calls h.shown);
         number = λ m is. told-number calls seen call h.past may fit m (h.number m (sym (number-kept h.past call.bay call.ask.what r) ∙ is));
@@ -227,13 +232,14 @@ stamped Order id m e = let same : id ≡ m = cc in (sym same, refl)
 stamped Lock id m e = absurd (cc)
 
 module _ (script : Script) (is : IsScript script) (host : HostNo) (few : host.0 < 16) (id : Number) (own : id.0 % 16 ≡ host.0) where
-  begins-numbered : (kind : How) (number : Option Number) (s : Steps Finish) → Keeps script.n id Any (begins number) s → Frees number s →
+  begins-numbered : (kind : How) (number : Option Number) (s : Steps Finish) → Keeps script.n id Any (begins number) s → Frees number s → TellsNumber number s →
       ((m : Number) → number ≡ Some m → (m ≡ id) × (script.mode ≡ Order) × (kind ≡ Plain)) → Numbered script.n id script.mode kind host [] (settled host id s)
-  begins-numbered kind number s keeps frees owns =
+  begins-numbered kind number s keeps frees tells owns =
       settled-numbered script.n id script.mode kind host few [] id s (record {
         past = begins number;
         keeps = keeps;
         frees = frees;
+        tells = tells;
         low = omega arith;
         shown = tt;
         number = λ m e.
@@ -252,8 +258,8 @@ module _ (script : Script) (is : IsScript script) (host : HostNo) (few : host.0 
   reads-numbered row object first count (Ok parts) e frees =
       let a : Access = access script id parts [] in
       begins-numbered Plain (number_of a.mode a.id) (read_of script id (Ok parts))
-      (weakened a.n a.id HasOnlyRead (begins (number_of a.mode a.id)) (read_of script id (Ok parts)) (reads_keep_phases a)) (frees (number_of a.mode a.id)) stamp-own
-  reads-numbered row object first count (Err fault) e frees = begins-numbered Plain None no_steps tt tt (none-own Plain)
+      (weakened a.n a.id HasOnlyRead (begins (number_of a.mode a.id)) (read_of script id (Ok parts)) (reads_keep_phases a)) (frees (number_of a.mode a.id)) (reads-number a) stamp-own
+  reads-numbered row object first count (Err fault) e frees = begins-numbered Plain None no_steps tt tt tt (none-own Plain)
 
   writes-numbered : (row : ℕ) (object : Name) (first count : ℕ) (blocks : List (List ℕ)) → 1 ≤ count → (r : Result (List RowPart) PartsFault) → parts_of script object first count ≡ r →
       ((o : Option Number) → Frees o (write_of script id blocks r)) → Numbered script.n id script.mode Plain host [] (settled host id (write_of script id blocks r))
@@ -262,10 +268,10 @@ module _ (script : Script) (is : IsScript script) (host : HostNo) (few : host.0 
       let sound = found-parts script is host id object first count parts some e in
       begins-numbered Plain (number_of a.mode a.id) (write_of script id blocks (Ok parts))
       (weakened a.n a.id HasWritten (begins (number_of a.mode a.id)) (write_of script id blocks (Ok parts)) (writes_keep_phases a is.devices_least (rows-differ parts sound.rows_apart)))
-      (frees (number_of a.mode a.id)) stamp-own
-  writes-numbered row object first count blocks some (Err fault) e frees = begins-numbered Plain None no_steps tt tt (none-own Plain)
+      (frees (number_of a.mode a.id)) (writes-number a) stamp-own
+  writes-numbered row object first count blocks some (Err fault) e frees = begins-numbered Plain None no_steps tt tt tt (none-own Plain)
 
-  attempt-numbered : (row : ℕ) (task : Task) → IsTask script host task → Numbered script.n id script.mode (kind_of task) host [] (settled host id (attempt script host id row task))
+  pub attempt-numbered : (row : ℕ) (task : Task) → IsTask script host task → Numbered script.n id script.mode (kind_of task) host [] (settled host id (attempt script host id row task))
   attempt-numbered row (tasks.Read object first count) aim =
       reads-numbered row object first count (parts_of script object first count) refl (λ o. attempt-frees script host id o row (tasks.Read object first count))
   attempt-numbered row (tasks.Write object first from count) aim =
@@ -274,13 +280,13 @@ module _ (script : Script) (is : IsScript script) (host : HostNo) (few : host.0 
   attempt-numbered row (tasks.Recover at) aim =
       let r : Rescue = record { n = script.n; host = host; id = id; row = at } in
       begins-numbered (kind_of (tasks.Recover at)) None (recover_steps r) (weakened r.n r.id HasRepaired (begins None) (recover_steps r) (recoveries_keep_phases r))
-      (attempt-frees script host id None row (tasks.Recover at)) (none-own (kind_of (tasks.Recover at)))
+      (attempt-frees script host id None row (tasks.Recover at)) (recoveries-number r) (none-own (kind_of (tasks.Recover at)))
   attempt-numbered row (tasks.Rebuild bay) aim =
       let m : Repair = record { n = script.n; id = id; row = record { 0 = row }; target = bay } in
       begins-numbered (kind_of (tasks.Rebuild bay)) None (mend_steps m) (weakened m.n m.id HasRepaired (begins None) (mend_steps m) (rebuilds_keep_phases m is.devices_least aim.1))
-      (attempt-frees script host id None row (tasks.Rebuild bay)) (none-own (kind_of (tasks.Rebuild bay)))
-  attempt-numbered row (tasks.Lose bay) aim = begins-numbered Plain None no_steps tt tt (none-own Plain)
-  attempt-numbered row (tasks.Fit bay) aim = begins-numbered Plain None no_steps tt tt (none-own Plain)
+      (attempt-frees script host id None row (tasks.Rebuild bay)) (mends-number m) (none-own (kind_of (tasks.Rebuild bay)))
+  attempt-numbered row (tasks.Lose bay) aim = begins-numbered Plain None no_steps tt tt tt (none-own Plain)
+  attempt-numbered row (tasks.Fit bay) aim = begins-numbered Plain None no_steps tt tt tt (none-own Plain)
 
 -- an attempt in hand is so
 pub numbered : (script : Script) → IsScript script → (host : HostNo) (p : Progress) (steps : Steps Finish) → (h : InHand script host p.jobs p.row p.seen p.calls steps) →

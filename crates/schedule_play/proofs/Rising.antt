@@ -84,12 +84,12 @@ wrote-now at row call earlier id n cell place what done =
     ∙ ap (λ (w : Request). with_some (write_of w call.answer.reply) (writes at row earlier)) what
     ∙ ap (λ (r : Reply). with_some (write_of (Put row id n cell) r) (writes at row earlier)) done
 
-wrote-below : (at : BayNo) (row : RowNo) (call : Call) (earlier : List Call) (id n : Number) (cell : Cell) → call.bay ≡ at → call.ask.what ≡ Put row id n cell → IsDone call → (m : Number) →
+pub wrote-below : (at : BayNo) (row : RowNo) (call : Call) (earlier : List Call) (id n : Number) (cell : Cell) → call.bay ≡ at → call.ask.what ≡ Put row id n cell → IsDone call → (m : Number) →
     AllBelow m (writes at row (call ∷ earlier)) → n.0 < m.0
 wrote-below at row call earlier id n cell place what done m h = (subst (λ (ns : List Number). AllBelow m ns) (wrote-now at row call earlier id n cell place what done) h).0
 
 -- Covered by a number that is below
-covered-below : (script : Script) (c : Call) (ns : List Number) (cover : Covering script.mode c ns) (n : Number) → cover.number.0 < n.0 → AllBelow n ns
+pub covered-below : (script : Script) (c : Call) (ns : List Number) (cover : Covering script.mode c ns) (n : Number) → cover.number.0 < n.0 → AllBelow n ns
 covered-below script c ns cover n less = all-map (λ (x : Number). x.0 ≤ cover.number.0) (λ (x : Number). x.0 < n.0) ns (λ x le. omega (arith, le, less)) cover.covers
 
 module _ (script : Script) (is : IsScript script) (row : RowNo) (below : row.0 < script.rows) (unit : ℕ) (inside : unit + 1 < script.n) where
@@ -107,24 +107,24 @@ module _ (script : Script) (is : IsScript script) (row : RowNo) (below : row.0 <
 
   -- what the unit took is below a number that all writes of its slot and of its parity are below; and while it has a cell, those of
   -- its slot alone tell it
-  record Facts (history : List Call) : Type 0 where
-    either : (m : Number) → AllBelow m (writes (U) row history) → AllBelow m (writes (P) row history) → Below m (taken_at script history row unit)
-    celled : (cell_at script history row (U) ≡ None → ⊥) → (m : Number) → AllBelow m (writes (U) row history) → Below m (taken_at script history row unit)
-    rising : AreRising (taken_at script history row unit)
+  pub record Facts (history : List Call) : Type 0 where
+    pub either : (m : Number) → AllBelow m (writes (U) row history) → AllBelow m (writes (P) row history) → Below m (taken_at script history row unit)
+    pub celled : (cell_at script history row (U) ≡ None → ⊥) → (m : Number) → AllBelow m (writes (U) row history) → Below m (taken_at script history row unit)
+    pub rising : AreRising (taken_at script history row unit)
 
   -- A put
   module _ (earlier : List Call) (call : Call) (along : IsHistory script (call ∷ earlier)) (id n : Number) (cell : Cell) (what : call.ask.what ≡ Put row id n cell) (done : IsDone call) where
     abbrev Calls : List Call
     Calls = calls_at script earlier call.ask.host
 
-    a : Asker script is earlier call
+    pub a : Asker script is earlier call
     a = asker script is earlier call along.0 along.1 row (ap (λ (w : Request). row_of w) what)
 
     may : MayPut a.hand.hand.task
     may = may-put script is earlier call a.steps a.hand a.asked row id n cell what
 
     -- its number is above those of all writes of its slot
-    above-own : AllBelow n (writes call.bay row earlier)
+    pub above-own : AllBelow n (writes call.bay row earlier)
     above-own =
         ((numbers_rise script [] earlier call row n is along (ap (λ (w : Request). row_of w) what)).0
         (ap (λ (w : Request). write_of w call.answer.reply) what ∙ ap (λ (r : Reply). write_of (Put row id n cell) r) done)).0
@@ -133,7 +133,7 @@ module _ (script : Script) (is : IsScript script) (row : RowNo) (below : row.0 <
     stood = stands script is earlier along.0
 
     -- a rebuild commits nothing
-    mends-none : (bay : BayNo) → a.hand.hand.task ≡ tasks.Rebuild bay → (commit : Commit) → IsIn commit (commits_of script earlier call) → ⊥
+    pub mends-none : (bay : BayNo) → a.hand.hand.task ≡ tasks.Rebuild bay → (commit : Commit) → IsIn commit (commits_of script earlier call) → ⊥
     mends-none bay mends commit among =
         subst (λ (cs : List Commit). IsIn commit cs) (commits-are script is earlier call a.steps a.hand a.asked done ∙ (mend-puts script is earlier call a.steps a.hand a.asked bay mends).none) among
 
@@ -192,7 +192,7 @@ module _ (script : Script) (is : IsScript script) (row : RowNo) (below : row.0 <
 
       -- by a write
       module _ (object : Name) (first from count : ℕ) (writes_it : a.hand.hand.task ≡ tasks.Write object first from count) where
-        gone : WasGone script.n row unit Calls
+        pub gone : WasGone script.n row unit Calls
         gone =
             let s = parity_writes.settles script is earlier call along (stood).holds (stood).owned (stood).shown row below place id n cell what done a.steps a.hand a.asked object first from count writes_it in
             let so =
@@ -374,7 +374,7 @@ module _ (script : Script) (is : IsScript script) (row : RowNo) (below : row.0 <
         by (inl same) = stays same
         by (inr t) = takes t
 
-  facts : (history : List Call) → IsHistory script history → Facts history
+  pub facts : (history : List Call) → IsHistory script history → Facts history
   facts [] along = record { either = λ m us ps. tt; celled = λ there m us. tt; rising = tt }
   facts (call ∷ earlier) along = facts-next earlier call along (facts earlier along.0)
 

@@ -46,7 +46,7 @@ pub data WriteMove (at : BayNo) (row : RowNo) (call : Call) (earlier : List Call
   Quiet : (same : writes at row (call ∷ earlier) ≡ writes at row earlier) → WriteMove at row call earlier
   Wrote : (place : call.bay ≡ at) (id n : Number) (cell : Cell) (what : call.ask.what ≡ Put row id n cell) (done : IsDone call) (now : writes at row (call ∷ earlier) ≡ n ∷ writes at row earlier) → WriteMove at row call earlier
 
-both-true : (x y : Bool) → (x && y) ≡ true → (x ≡ true) × (y ≡ true)
+pub both-true : (x y : Bool) → (x && y) ≡ true → (x ≡ true) × (y ≡ true)
 both-true true y e = (refl, e)
 both-true false y e = absurd (cc)
 
@@ -74,23 +74,23 @@ write-moved at row call earlier = by (is_at at row call) refl (write_of call.ask
 
 -- What the slot rule says to a claim
 module _ (bay : Bay) (ask : Ask) (slot : Slot) where
-  abbrev IsFloor : Reply → Type 0
+  abbrev pub IsFloor : Reply → Type 0
   IsFloor r = (floor : Number) → r ≡ Missing floor → ((bay.empty ≡ true) × (floor ≡ bay.high)) ⊎ ((bay.empty ≡ false) × (floor ≡ slot.write_no))
 
-  abbrev NoFloor : Reply → Type 0
+  abbrev pub NoFloor : Reply → Type 0
   NoFloor r = (floor : Number) → r ≡ Missing floor → ⊥
 
-  none-floor : (r : Reply) → NoFloor r → IsFloor r
+  pub none-floor : (r : Reply) → NoFloor r → IsFloor r
   none-floor r never floor e = absurd (never floor e)
 
-  reads-none : (want fails : Bool) (o : SlotOutcome) → NoFloor o.reply → NoFloor (reads want fails slot o).reply
+  pub reads-none : (want fails : Bool) (o : SlotOutcome) → NoFloor o.reply → NoFloor (reads want fails slot o).reply
   reads-none want fails o never = by (is_some (wanted_cell want slot) && fails)
     where
       by : (b : Bool) → NoFloor (if b then record { reply = Fault; slot = slot } else o).reply
       by true floor e = absurd (cc)
       by false floor e = never floor e
 
-  floor-is : (b : Bool) → bay.empty ≡ b → (c : Option Cell) → (floor : Number) → (if b then Some bay.high else slot_floor slot c) ≡ Some floor →
+  pub floor-is : (b : Bool) → bay.empty ≡ b → (c : Option Cell) → (floor : Number) → (if b then Some bay.high else slot_floor slot c) ≡ Some floor →
       ((bay.empty ≡ true) × (floor ≡ bay.high)) ⊎ ((bay.empty ≡ false) × (floor ≡ slot.write_no))
   floor-is true was c floor e = inl (was, (let same : bay.high ≡ floor = cc in sym same))
   floor-is false was None floor e = inr (was, (let same : slot.write_no ≡ floor = cc in sym same))
@@ -138,7 +138,7 @@ module _ (bay : Bay) (ask : Ask) (slot : Slot) where
     seize-floor true was floor e = inl (was, (let same : bay.high ≡ floor = cc in sym same))
     seize-floor false was floor e = seizes-floor was (young_note bay ask slot.note) floor e
 
-    claim-floor : (how : How) → IsFloor (claim_rule how bay slot ask id mask want fails).reply
+    pub claim-floor : (how : How) → IsFloor (claim_rule how bay slot ask id mask want fails).reply
     claim-floor Plain = plain-floor (missing_floor bay slot) refl
     claim-floor Mend = mend-floor bay.empty refl
     claim-floor Seize = seize-floor bay.empty refl

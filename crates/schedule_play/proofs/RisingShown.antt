@@ -98,7 +98,7 @@ module _ (script : Script) (is : IsScript script) (row : RowNo) (below : row.0 <
     unit-within = let least = is.devices_least in mod_below (parity_at script.n row + 1 + unit) script.n (omega (arith, least))
 
     -- an attempt that claims the parity has claimed no unit of the row
-    none-claimed : (earlier : List Call) (call : Call) → IsHistory script (call ∷ earlier) → (host : HostNo) (steps : Steps Finish) (h : HasHand script earlier host steps) → next_errand steps ≡ Some (errand_of call) →
+    pub none-claimed : (earlier : List Call) (call : Call) → IsHistory script (call ∷ earlier) → (host : HostNo) (steps : Steps Finish) (h : HasHand script earlier host steps) → next_errand steps ≡ Some (errand_of call) →
         IsClaim P row call → Happened (IsClaim (U) row) (calls_at script earlier host) → ⊥
     none-claimed earlier call along host steps h asked claim happened =
         next-untaken script is earlier host steps h call asked P row (inr claim)

@@ -68,7 +68,7 @@ attempt-tells script host id row (tasks.Lose bay) = any-telling [] (attempt scri
 attempt-tells script host id row (tasks.Fit bay) = any-telling [] (attempt script host id row (tasks.Fit bay))
 
 -- The calls of the attempt in hand are among those of the history
-calls-among : (script : Script) → IsScript script → (host : HostNo) (history : List Call) → IsHistory script history → (c : Call) → IsIn c (calls_at script history host) → IsIn c history
+pub calls-among : (script : Script) → IsScript script → (host : HostNo) (history : List Call) → IsHistory script history → (c : Call) → IsIn c (calls_at script history host) → IsIn c history
 calls-among script is host [] along c i =
     absurd (subst (λ (calls : List Call). IsIn c calls) (jobs-bare script host (jobs_of script host) (before_start script host) refl) i)
 calls-among script is host (call ∷ earlier) along c i = by (calls-among script is host earlier along.0 c) (call.ask.host.0 == host.0) refl i

@@ -18,3 +18,4 @@ pub mod Lone
 pub mod Contents
 pub mod Effects
 pub mod Rising
+pub mod Seen

@@ -9,6 +9,7 @@ ghost use Rattle.schedule_play.specs.Laws.{OneIsMissing, AccessesAreCovered, Num
 ghost use Rattle.schedule_play.specs.Leftovers.{RefusedLeaveNothing};
 ghost use Rattle.schedule_play.specs.Lone.{LoneHostsAreDone};
 ghost use Rattle.schedule_play.specs.Rising.{ContentsRise};
+ghost use Rattle.schedule_play.specs.Seen.{ContentsAreLate, ParitiesCount, ReadsSeeBelow, ReadsTellBelow};
 
 /// One host writes a block of a row of two units under stamps, and then reads it. Each such play in which no store fails
 /// and which comes to its end is serial: its results and contents are those of a serial array, and so is each block that
@@ -156,4 +157,28 @@ pub fn attempts_tell_commits()
 /// before, so that the last one has the greatest.
 pub fn contents_rise()
     ensures { ContentsRise }
+{}
+
+/// Contents come late: along every history of a script each content that a unit takes has a number above those of all earlier reads
+/// of the unit's slot and of the parity of its row.
+pub fn contents_are_late()
+    ensures { ContentsAreLate }
+{}
+
+/// What parities count: after every history of a script what a unit has taken since the parity of its row was put last has no number
+/// below the origin of the parity's note, and there is nothing such where the parity has none. What it had taken before has numbers below
+/// each that is above all writes of the parity.
+pub fn parities_count()
+    ensures { ParitiesCount }
+{}
+
+/// Reads see what is below them: in every history of a script each read of a slot finds the cell that the contents with numbers below
+/// its own give, and they still give it after all later calls.
+pub fn reads_see_below()
+    ensures { ReadsSeeBelow }
+{}
+
+/// A read that is done tells of each of its units the content with the greatest number below its own.
+pub fn reads_tell_below()
+    ensures { ReadsTellBelow }
 {}
