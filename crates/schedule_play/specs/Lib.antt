@@ -19,3 +19,4 @@ pub mod Contents
 pub mod Effects
 pub mod Rising
 pub mod Seen
+pub mod Told

@@ -5,11 +5,12 @@ ghost use Rattle.schedule_play.specs.Effects.{AttemptsTellCommits};
 ghost use Rattle.schedule_play.specs.FirstForm.{FirstPlaysAreSerial, FirstFormsAreFirst};
 ghost use Rattle.schedule_play.specs.Holding.{BlankNotesMend, UnitsAreOfWrites, AnsweredAreFree, HoldersKeepNotes, PuttersOwnRows, PutsAreOfOwners};
 ghost use Rattle.schedule_play.specs.Ids.{IdsAreApart};
-ghost use Rattle.schedule_play.specs.Laws.{OneIsMissing, AccessesAreCovered, NumbersRise, PutsAreCovered, CellsAreCommitted, ParityIsCovered, ParityIsKept, LostBlocksAreTorn};
+ghost use Rattle.schedule_play.specs.Laws.{OneIsMissing, AccessesAreCovered, NumbersRise, PutsAreCovered, CellsAreCommitted, ParityIsCovered, ParityIsKept, LostBlocksAreTorn, PlaysAreSerial};
 ghost use Rattle.schedule_play.specs.Leftovers.{RefusedLeaveNothing};
 ghost use Rattle.schedule_play.specs.Lone.{LoneHostsAreDone};
 ghost use Rattle.schedule_play.specs.Rising.{ContentsRise};
 ghost use Rattle.schedule_play.specs.Seen.{ContentsAreLate, ParitiesCount, ReadsSeeBelow, ReadsTellBelow};
+ghost use Rattle.schedule_play.specs.Told.{HostsHaveResults, NumbersAreApart, ResultsTell};
 
 /// One host writes a block of a row of two units under stamps, and then reads it. Each such play in which no store fails
 /// and which comes to its end is serial: its results and contents are those of a serial array, and so is each block that
@@ -181,4 +182,27 @@ pub fn reads_see_below()
 /// A read that is done tells of each of its units the content with the greatest number below its own.
 pub fn reads_tell_below()
     ensures { ReadsTellBelow }
+{}
+
+/// Once all hosts have ended, the results of each are those of its jobs in their order, up to the last or to one that may quit, and
+/// their numbers rise.
+pub fn hosts_have_results()
+    ensures { HostsHaveResults }
+{}
+
+/// No two results of a play have one number.
+pub fn numbers_are_apart()
+    ensures { NumbersAreApart }
+{}
+
+/// Results tell what was committed: the units that a result with a number names have taken this with that number, and no unit has taken
+/// anything else with it. Once all hosts have ended each content that a unit has taken has the number of a result.
+pub fn results_tell()
+    ensures { ResultsTell }
+{}
+
+/// Every play is serial: once all hosts have ended, the results of every history of a script are those of a serial array that runs them
+/// in the order of their numbers, and each block that is shown is that of the array at the end.
+pub fn plays_are_serial()
+    ensures { PlaysAreSerial }
 {}
