@@ -17,7 +17,6 @@ use Rattle.block_store.specs.declared.store.Store.{Ghosts}
 use Rattle.bay_device.specs.declared.bay.Bay.{Bay}
 use Rattle.bay_device.specs.Handling.{count_faults}
 use Rattle.script_text.specs.Script.{Script}
-use Rattle.script_text.specs.First.{IsFirstForm}
 use Rattle.script_text.specs.Ranges.{IsScript}
 use Rattle.script_text.specs.Weights.{total}
 use Rattle.host_engine.specs.Bounds.{IsPlayable}
@@ -36,7 +35,6 @@ use Rattle.schedule_play.specs.World.{AreOver, Keeps, Shows, IsReady, all_reques
 use Rattle.schedule_play.specs.Making.{AreBack, AreLarge, IsRefusal, stores_of}
 use Rattle.schedule_play.specs.Gathering.{IsBlank, IsClosable, IsGathered}
 use Rattle.schedule_play.specs.Rows.{HasFailed, cells_after}
-use Rattle.schedule_play.specs.FirstForm.{IsFirst}
 use Rattle.schedule_play.specs.Headline.{StoresHold, results, contents, report_of}
 use Rattle.schedule_play.specs.declared.world.World.{World}
 use Rattle.schedule_play.specs.declared.making.WorldFault.{WorldFault}
@@ -44,30 +42,13 @@ use Rattle.schedule_play.specs.declared.making.WorldFault.TheVariants as faults
 use Rattle.schedule_play.proofs.LoneBays.{lone_hosts_are_done}
 use Rattle.schedule_play.proofs.TornEndings.{lost_blocks_are_torn}
 use Rattle.schedule_play.proofs.ContentParity.{parity_is_kept, contents_are_shown}
-use Rattle.schedule_play.proofs.FirstSerial.{first_plays_are_serial}
+use Rattle.schedule_play.proofs.Serial.{plays_are_serial}
 use Rattle.schedule_play.proofs.CloseLemmas.{closed-journals, closed-stores, closed-back}
 use Rattle.schedule_play.proofs.ReportLemmas.{report-is}
 use Rattle.schedule_play.proofs.ContentLemmas.{contents-whole}
 use Rattle.array_cli.specs.declared.run.Outcome.{Outcome}
 use Rattle.array_cli.specs.Runs.{handed_out, journal_of, AllTell, HasFailedBy, HasPlayed, HasStopped, HasCalled, HasLoaded, IsLoad, IsCall, IsEmpty, IsIdle, IsOpened, IsPlayed, IsRead, IsReported}
 use Rattle.array_cli.specs.Parts.{HasEnded, HasPrinted, IsFinished, IsRefused, IsUnplayed}
-
-is-first : (script : Script) → IsFirstForm script → IsFirst script
-is-first script f =
-    let form = f.0 in
-    record {
-      host = form.host;
-      first = form.first;
-      name = form.name;
-      block = form.block;
-      patience = form.patience;
-      tries = form.tries;
-      host_below = f.1.numbers.host;
-      first_below = f.1.numbers.first;
-      block_length = f.1.block.size;
-      tries_from = f.1.numbers.tries_least;
-      is = f.2;
-    }
 
 pub playable : (script : Script) → IsScript script → IsPlayable script
 playable script is = record { ranges = is }
@@ -184,24 +165,26 @@ module _ {D : Type 0} {g : Ghosts D} where
   pub is-played : Whole g → (script : Script) → IsScript script → total script ≤ 2 ^ 20 → (history : List Call) (now : World D g) (outcome : Outcome D) → Shows script history now → HasEnded script history now →
       outcome.results.items ≡ results script history → IsHandedOut now outcome → IsPlayed script (handed_out g outcome) history
   is-played whole script is few history now outcome shows at read out = record {
-    play = record {
-      most = all_requests script;
-      played = at.played;
-      over = at.over;
-      journals = out.journals ∙ closed-journals script history now.bays.items shows.bays shows.bay_count;
-      results = read;
-      turns = ap (λ (t : _). t.items) out.turns ∙ shows.turns;
-      stores = subst (λ (stores : List D). StoresHold script history (map g.content stores)) (sym out.stores)
-          (closed-stores script history now.bays.items now.others.items shows.bays at.told shows.bay_count whole);
+    headline = record {
+      play = record {
+        most = all_requests script;
+        played = at.played;
+        over = at.over;
+        journals = out.journals ∙ closed-journals script history now.bays.items shows.bays shows.bay_count;
+        results = read;
+        turns = ap (λ (t : _). t.items) out.turns ∙ shows.turns;
+        stores = subst (λ (stores : List D). StoresHold script history (map g.content stores)) (sym out.stores)
+            (closed-stores script history now.bays.items now.others.items shows.bays at.told shows.bay_count whole);
+      };
+      serial = plays_are_serial script history is (shows.told at.told) at.over;
+      parity = parity_is_kept script history is (shows.told at.told);
+      lost_blocks = lost_blocks_are_torn script history is (shows.told at.told);
+      causes = λ host. causes_are_met script history is (shows.told at.told) host;
     };
-    causes = λ host. causes_are_met script history is (shows.told at.told) host;
-    parity = parity_is_kept script history is (shows.told at.told);
     contents = contents_are_shown script history is (shows.told at.told);
-    lost_blocks = lost_blocks_are_torn script history is (shows.told at.told);
     attempts = unrefused_attempts_go_on script history is few (shows.told at.told);
     unrefused = unrefused_jobs_are_done script history is few (shows.told at.told);
     alone = lone_hosts_are_done script history is few (shows.told at.told);
-    serial = λ form well. first_plays_are_serial script history (all_requests script) (is-first script form) at.played well at.over;
   }
 
   -- and its report

@@ -1,5 +1,5 @@
 -- A call of the program: what it has read, played and printed, and why it has ended so.
-use Rattle.std.specs.Prelude.{◌≡◌, ◌⊎◌, ℕ, ◌+◌, ◌^◌, ◌<◌, ◌≤◌, ◌++◌, true, false, IsTrue, List, [], Option, Some, None, length, map, slice_index_or}
+use Rattle.std.specs.Prelude.{◌≡◌, ◌⊎◌, ℕ, ◌+◌, ◌^◌, ◌<◌, ◌≤◌, ◌++◌, true, IsTrue, List, [], Option, Some, None, length, map, slice_index_or}
 use Rattle.raid_base.specs.declared.messages.Call.{Call}
 use Rattle.raid_base.specs.declared.messages.Entry.{Entry}
 use Rattle.raid_base.specs.declared.status.Status.{Status}
@@ -12,7 +12,6 @@ use Rattle.block_store.specs.declared.store.Store.{Ghosts as StoreGhosts}
 use Rattle.bay_device.specs.Handling.{count_faults}
 use Rattle.script_text.specs.Script.{Script}
 use Rattle.script_text.specs.Text.{script_text}
-use Rattle.script_text.specs.First.{IsFirstForm}
 use Rattle.script_text.specs.Faults.{fault_in}
 use Rattle.script_text.specs.Ranges.{IsScript}
 use Rattle.script_text.specs.Weights.{total}
@@ -23,9 +22,8 @@ use Rattle.load_maker.specs.Summary.{summary_text}
 use Rattle.schedule_play.specs.World.{EachAt}
 use Rattle.schedule_play.specs.Making.{AreBack, AreLarge, IsFirstSmall}
 use Rattle.schedule_play.specs.Contents.{AreContentsShown}
-use Rattle.schedule_play.specs.FirstForm.{has_fault}
 use Rattle.schedule_play.specs.Lone.{LoneJobsAreDone}
-use Rattle.schedule_play.specs.Headline.{Outcome as PlayOutcome, IsPlayOf, HasCauses, IsSerialPlay, KeepsParity, NamesLostRightly, report_of}
+use Rattle.schedule_play.specs.Headline.{Outcome as PlayOutcome, Headline, report_of}
 use Rattle.array_cli.specs.declared.run.Outcome.{Outcome}
 use Rattle.array_cli.specs.declared.words.Command.{Command}
 use Rattle.array_cli.specs.declared.words.Command.TheVariants.{Sim, Run, Load}
@@ -39,21 +37,18 @@ handed_out g outcome = record {
   stores = map g.content outcome.stores.items;
 }
 
--- The play of a script: what is handed out is the play's, each result that gives a cause has it, the parity is kept at every
--- moment, what is shown of a unit at the end is the content that it took last, and lost blocks are named rightly. An attempt of a
--- read or write that meets no refusal goes on, or its job is done with it; so each whose last attempt met none is done; and where
--- one host alone reads and writes and no bay has answered Fault each job that has parts is done at its first attempt. For a script
--- of the first form whose stores have not failed the play is serial
+-- The play of a script. The headline: what is handed out is the play's; its results and contents are those of a serial array that runs
+-- them in the order of their numbers, and each block that is shown at the end is that array's; the parity is kept at every moment; lost
+-- blocks are named rightly; each result that gives a cause has it. Besides, what is shown of a unit at the end is the content that it
+-- took last. An attempt of a read or write that meets no refusal goes on, or its job is done with it; so each whose last attempt met
+-- none is done; and where one host alone reads and writes and no bay has answered Fault each job that has parts is done at its first
+-- attempt.
 pub record IsPlayed (script : Script) (outcome : PlayOutcome) (history : List Call) : Type 0 where
-  pub play : IsPlayOf script history outcome
-  pub causes : HasCauses script history
-  pub parity : KeepsParity script history
+  pub headline : Headline script history outcome
   pub contents : AreContentsShown script history
-  pub lost_blocks : NamesLostRightly script history
   pub attempts : UnrefusedGoOn script history
   pub unrefused : UnrefusedAreDone script history
   pub alone : LoneJobsAreDone script history
-  pub serial : IsFirstForm script → has_fault history ≡ false → IsSerialPlay script history
 
 -- and its report
 pub record IsReported (script : Script) (outcome : PlayOutcome) (report : ReportOf) : Type 0 where

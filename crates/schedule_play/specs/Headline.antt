@@ -1,4 +1,4 @@
--- The six parts of the headline, over a script and the history of its play.
+-- The headline and its parts, over a script and the history of its play.
 use Rattle.std.specs.Prelude.{◌≡◌, ℕ, ◌<◌, true, not, List, map, flat_map, slice_get, Option, Some, None}
 use Rattle.std.specs.List.{range_with_len, enumerate_from, AllByRecursion}
 use Rattle.raid_base.specs.declared.numbers.HostNo.{HostNo}
@@ -116,10 +116,9 @@ NamesLostRightly script history = EachEnding script history (λ host e. IsLostRi
 abbrev pub HasCauses : Script → List Call → Type 0
 HasCauses script history = EachEnding script history (λ host e. MeetsCause script host e e.ended)
 
--- The headline
-pub record Headline (script : Script) (outcome : Outcome) (report : ReportOf) : Type 0 where
-  pub history : List Call
-  pub input_output : report ≡ report_of script history
+-- The headline: the play is that of the history, its results are serial, the parity is kept, lost blocks are named rightly, and each
+-- cause that is given has come. The report that is printed is that of the same history
+pub record Headline (script : Script) (history : List Call) (outcome : Outcome) : Type 0 where
   pub play : IsPlayOf script history outcome
   pub serial : IsSerialPlay script history
   pub parity : KeepsParity script history
