@@ -46,7 +46,7 @@ const LOSE: Request = Request::Lose;
 const FIT: Request = Request::Fit;
 
 /// A host of this script at its first request.
-fn make_host<'s>(alloc: Global, no: HostNo, script: &'s Script) -> Result<Host<'s>, Fail>
+pub(crate) fn make_host<'s>(alloc: Global, no: HostNo, script: &'s Script) -> Result<Host<'s>, Fail>
     requires host { no.0 < 16 }
     requires ranges { IsScript script.now }
     ensures { IfOk result IsReady }

@@ -1,16 +1,17 @@
 //! A host of the smallest array.
-ghost use Rattle.std.specs.Prelude.{◌<◌, IfOk};
-ghost use Rattle.script_text.specs.First.{IsFirstForm};
+ghost use Rattle.std.specs.Prelude.{IfOk};
+ghost use Rattle.script_text.specs.Ranges.{IsScript};
 
 use crate::attempt::Attempt;
+use crate::host_tests::make_host;
+use crate::lookup;
 use crate::room::{contents_in, requests_in, task_parts};
-use crate::{Host, lookup};
 use place_numbers::Numbers;
 use raid_base::{
-    Ask, BayNo, Cell, Content, Ended, HostNo, How, Name, NoMemory, Number, PartsFault, Reply,
-    Request, RowNo, Task, fits,
+    Ask, BayNo, Cell, Content, Ended, HostNo, How, Name, Number, PartsFault, Reply, Request, RowNo,
+    Task, fits,
 };
-use script_text::{Script, read_first};
+use script_text::{Script, read_script};
 use std::alloc::Global;
 use std::test::Fail;
 
@@ -18,23 +19,15 @@ const TEXT: &[u8] =
     b"raid 1\ndevices 3\nrows 1\nmode order\npatience 3\ntries 2\nobject a 0\nhost 1\nwrite a 0 41\nread a 0 1\nend\n";
 
 fn smallest(alloc: Global) -> Result<Script, Fail>
-    ensures { IfOk result IsFirstForm }
+    ensures { IfOk result IsScript }
 {
-    Ok(read_first(alloc, TEXT)?.ok_or("no script")?)
-}
-
-/// A host of a script of the first form.
-fn make<'s>(alloc: Global, no: HostNo, script: &'s Script) -> Result<Host<'s>, NoMemory>
-    requires host { no.0 < 16 }
-    requires form { IsFirstForm script.now }
-{
-    Host::make(alloc, no, script)
+    Ok(read_script(alloc, TEXT)?)
 }
 
 #[test]
 fn first_claims_the_parity(rt: HostRuntime) -> Result<(), Fail> {
     let script = smallest(rt.alloc())?;
-    let host = make(rt.alloc(), HostNo(1), &script)?;
+    let host = make_host(rt.alloc(), HostNo(1), &script)?;
     let claim = Ask {
         host: HostNo(1),
         clock: 0,
@@ -51,24 +44,27 @@ fn first_claims_the_parity(rt: HostRuntime) -> Result<(), Fail> {
     assert!(rt; host.results().is_empty());
     assert!(rt; host.read_contents().is_empty());
     assert!(rt; host.transcript().is_empty());
-    let idle = make(rt.alloc(), HostNo(2), &script)?;
+    let idle = make_host(rt.alloc(), HostNo(2), &script)?;
     assert_eq!(rt; idle.next(1), None);
     Ok(())
 }
 
-/// The greatest numbers of requests and contents of a host of a script of the first form.
-fn most_of(script: &Script, no: HostNo) -> (usize, usize)
-    requires form { IsFirstForm script.now }
+/// The greatest numbers of requests and contents of a host.
+fn most_of(script: &Script, no: HostNo) -> Result<(usize, usize), Fail>
+    requires { IsScript script.now }
 {
     let jobs = lookup::jobs_of(script, no);
-    (requests_in(script, jobs), contents_in(jobs))
+    if jobs.len() > 100 {
+        return Err("too many jobs")?;
+    }
+    Ok((requests_in(script, jobs), contents_in(jobs)))
 }
 
 #[test]
 fn has_room_for_each_try(rt: HostRuntime) -> Result<(), Fail> {
     let script = smallest(rt.alloc())?;
-    assert_eq!(rt; most_of(&script, HostNo(1)), (2 * 2 * 4 * 3, 1));
-    assert_eq!(rt; most_of(&script, HostNo(2)), (0, 0));
+    assert_eq!(rt; most_of(&script, HostNo(1))?, (2 * 2 * 4 * 3, 1));
+    assert_eq!(rt; most_of(&script, HostNo(2))?, (0, 0));
     assert_eq!(rt; lookup::tries(&script), 2);
     assert_eq!(rt; lookup::blocks_of(&script, 0, 1), [[0x41; 64]].as_slice());
     assert!(rt; lookup::blocks_of(&script, 1, 1).is_empty());

@@ -9,7 +9,7 @@ use raid_base::{
     BayNo, Cause, Cell, Content, HostNo, JobEnd, JobResult, MemorySink, Name, Note, Number, RowNo,
     Shown, Turn,
 };
-use script_text::read_first;
+use script_text::read_script;
 use std::test::Fail;
 
 /// 64 bytes, the first of them another.
@@ -358,7 +358,7 @@ fn turns() -> [Turn; 7] {
 
 /// The report of the smallest array, into a sink with this much room.
 fn written(rt: &HostRuntime, room: u32) -> Result<(MemorySink, bool), Fail> {
-    let script = read_first(rt.alloc(), SCRIPT)?.ok_or("no script")?;
+    let script = read_script(rt.alloc(), SCRIPT)?;
     let view = Final {
         script: &script,
         results: &results(),

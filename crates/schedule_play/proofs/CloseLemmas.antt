@@ -1,14 +1,12 @@
 -- What a closed world hands out: the journals and the stores of its history.
-use Rattle.std.proofs.Common.{◌≡◌, ℕ, ◌+◌, ◌<◌, ◌≤◌, ◌||◌, zero, suc, Bool, true, false, List, [], ◌∷◌, ◌++◌, length, get_or, map, drop, Option, Some, None, refl, sym, ap, subst, ◌∙◌, arith, IsTrue, length-append}
+use Rattle.std.proofs.Common.{◌≡◌, ℕ, ◌+◌, ◌<◌, ◌≤◌, zero, suc, List, [], ◌∷◌, ◌++◌, length, get_or, map, drop, Option, Some, None, refl, sym, ap, subst, ◌∙◌, arith, IsTrue, length-append}
 use Rattle.std.specs.Prelude.{slice_get}
-use Rattle.std.specs.List.{list_any, range_with_len}
+use Rattle.std.specs.List.{range_with_len}
 use Rattle.std.proofs.lemmas.List.{length-drop}
-use Rattle.raid_base.specs.declared.numbers.BayNo.{BayNo}
 use Rattle.raid_base.specs.declared.numbers.RowNo.{RowNo}
 use Rattle.raid_base.specs.declared.cells.Cell.{Cell}
 use Rattle.raid_base.specs.declared.messages.Call.{Call}
-use Rattle.raid_base.specs.declared.messages.Entry.{Entry}
-use Rattle.raid_base.specs.Counts.{Rises, RisesBy}
+use Rattle.raid_base.specs.Counts.{RisesBy}
 use Rattle.stripe_layout.specs.Placement.{bay}
 use Rattle.slot_rules.specs.declared.slot.SlotState.{SlotState}
 use Rattle.slot_rules.specs.Slots.{Slot, Bay as BayState, slot_of}
@@ -18,10 +16,8 @@ use Rattle.bay_device.specs.declared.bay.Bay.{Bay}
 use Rattle.bay_device.specs.Handling.{count_faults}
 use Rattle.script_text.specs.Script.{Script}
 use Rattle.host_engine.specs.History.{journal}
-use Rattle.schedule_play.specs.Faults.{is_fault_entry, fault_bay}
 use Rattle.schedule_play.specs.Making.{IsBack, AreBack, stores_of}
 use Rattle.schedule_play.specs.RowStates.{cell_at}
-use Rattle.schedule_play.specs.Rows.{HasFailed}
 use Rattle.schedule_play.specs.Headline.{HoldsCell, HoldsBay, StoresHold}
 use Rattle.schedule_play.specs.World.{EachAt, BayShows, AllTell, IsOver, AreOver}
 use Rattle.schedule_play.proofs.RowLemmas.{map-as-range}
@@ -41,23 +37,6 @@ block-of (slot ∷ slots) (block ∷ blocks) (suc row) d cell enough inside e = 
 -- counts
 rises-none-of : (n before now : ℕ) → RisesBy n before now → RisesBy 0 before now
 rises-none-of n before now r = grind (arith)
-
-rises-some : (n before now : ℕ) → 1 ≤ n → RisesBy n before now → Rises before now
-rises-some n before now some r = grind (arith)
-
-rises-later : (n before mid now : ℕ) → RisesBy n before mid → Rises mid now → Rises before now
-rises-later n before mid now r s = grind (arith)
-
-count-some : (entries : List Entry) → list_any is_fault_entry entries ≡ true → 1 ≤ count_faults entries
-count-some [] e = cc
-count-some (entry ∷ entries) e = go (is_fault_entry entry) refl e (count-some entries)
-  where
-    go : (b : Bool) → is_fault_entry entry ≡ b → (b || list_any is_fault_entry entries) ≡ true → (list_any is_fault_entry entries ≡ true → 1 ≤ count_faults entries) → 1 ≤ count_faults (entry ∷ entries)
-    go true is h rest = rw is (omega arith)
-    go false is h rest = let more = rest h in rw is (omega (arith, more))
-
-some-same : {X : Type 0} (x y : X) → Some x ≡ Some y → x ≡ y
-some-same x y e = cc
 
 drop-front : {X : Type 0} (xs ys : List X) → drop (length xs) (xs ++ ys) ≡ ys
 drop-front [] ys = refl
@@ -148,47 +127,3 @@ module _ {D : Type 0} {g : Ghosts D} where
         others = ap (λ (m : ℕ). drop m (stores_of bays ++ drop (length bays) stores)) (sym (length-stores bays ∙ count))
             ∙ drop-front (stores_of bays) (drop (length bays) stores) ∙ ap (λ (m : ℕ). drop m stores) count;
       })
-
-  -- the bay whose journal tells a fault
-  record IsFaulty (from : ℕ) (bays : List (Bay D g)) (at : BayNo) : Type 0 where
-    k : ℕ
-    inside : k < length bays
-    is : at.0 ≡ from + k
-    tells : (d : Bay D g) → list_any is_fault_entry (get_or bays k d).journal.items ≡ true
-
-  faulty : (from : ℕ) (bays : List (Bay D g)) (at : BayNo) → fault_bay from bays ≡ Some at → IsFaulty from bays at
-  faulty from [] at e = absurd (cc)
-  faulty from (now ∷ bays) at e = go (list_any is_fault_entry now.journal.items) refl e (faulty (from + 1) bays at)
-    where
-      go : (b : Bool) → list_any is_fault_entry now.journal.items ≡ b → fault_bay from (now ∷ bays) ≡ Some at → (fault_bay (from + 1) bays ≡ Some at → IsFaulty (from + 1) bays at) → IsFaulty from (now ∷ bays) at
-      go true is h again =
-          let here : Some (bay from) ≡ Some at = rw is at h in
-          record { k = 0; inside = omega arith; is = ap (λ (b : BayNo). b.0) (sym (some-same (bay from) at here)) ∙ omega arith; tells = λ d. is }
-      go false is h again =
-          let rest = again (rw is at h) in
-          record { k = suc rest.k; inside = omega (arith, rest.inside); is = omega (arith, rest.is); tells = rest.tells }
-
-  -- the count of its store has risen
-  pub fault-rises : (stores : List D) (bays : List (Bay D g)) (others : List D) (at : BayNo) → AreOver stores bays → fault_bay 0 bays ≡ Some at →
-      (at.0 < length bays) × ((d : D) → Rises (g.faults (get_or stores at.0 d)) (g.faults (get_or (stores_of bays ++ others) at.0 d)))
-  fault-rises stores bays others at over e =
-      let f = faulty 0 bays at e in
-      let place : f.k ≡ at.0 = omega (arith, f.is) in
-      let inside : at.0 < length bays = omega (arith, f.inside, place) in (
-        inside,
-        λ d.
-            let b = some-bay bays (omega (arith, inside)) in
-            let o = over at.0 d b inside in
-            let told : list_any is_fault_entry (get_or bays at.0 b).journal.items ≡ true = ap (λ (m : ℕ). list_any is_fault_entry (get_or bays m b).journal.items) (sym place) ∙ f.tells b in
-            subst (λ (x : D). Rises (g.faults (get_or stores at.0 d)) (g.faults x)) (sym (store-at bays others at.0 d b inside))
-            (rises-some (count_faults (get_or bays at.0 b).journal.items) _ _ (count-some _ told) o.faults),
-      )
-
-  -- and so it has where a store has failed at the end
-  pub failed-rises : (stores : List D) (old new : List (Bay D g)) (others : List D) (at : ℕ) → AreOver stores old → HasFailed at old new → length new ≡ length old → (d : D) →
-      Rises (g.faults (get_or stores at d)) (g.faults (get_or (stores_of new ++ others) at d))
-  failed-rises stores old new others at over failed same d =
-      let b = some-bay old (omega (arith, failed.inside)) in
-      let o = over at d b failed.inside in
-      subst (λ (x : D). Rises (g.faults (get_or stores at d)) (g.faults x)) (sym (store-at new others at d b (omega (arith, failed.inside, same))))
-      (rises-later (count_faults (get_or old at b).journal.items) _ _ _ o.faults (failed.risen b))

@@ -40,13 +40,12 @@ use Rattle.host_engine.specs.Hands.{Led, Phased, past_of}
 use Rattle.host_engine.specs.Progress.{Progress, attempt}
 use Rattle.host_engine.specs.History.{IsNext, IsHistory, progress_at, bay_at}
 use Rattle.host_engine.proofs.PhasedHands.{phased}
-use Rattle.host_engine.proofs.SmallHistory.{are-asked}
 use Rattle.schedule_play.specs.RowStates.{slot_at, cell_at}
 use Rattle.schedule_play.specs.Laws.{content_at}
 use Rattle.schedule_play.specs.Hands.{HasHand, calls_at}
 use Rattle.schedule_play.specs.Holding.{HasNote, CameFrom}
 use Rattle.schedule_play.specs.Contents.{base_at, cell_with, cells_with}
-use Rattle.schedule_play.proofs.FaultBays.{calls-within}
+use Rattle.schedule_play.proofs.ContentCalls.{call-within}
 use Rattle.schedule_play.proofs.HandMoves.{may-next, Stays, Goes, Came, Stayed, Begun, Went, came}
 use Rattle.schedule_play.proofs.HandClaims.{IsTake, next-new}
 use Rattle.schedule_play.proofs.SlotMoves.{SlotMove, Kept, Touched, Lost, outcome_at, moved}
@@ -356,9 +355,6 @@ module _ (script : Script) (is : IsScript script) (row : RowNo) (below : row.0 <
               let less : unit < script.n - 1 = unit_here.unit_in in
               subst (λ (x : BayNo). IsThis (cell_on script.n (T) x row) (cell_at script earlier row x)) unit_here.stands (unit-cell before low unit (omega (arith, less)))
 
-      call-within : call.bay.0 < script.n
-      call-within = (calls-within script (record { ranges = is }) (call ∷ earlier) (are-asked script is (call ∷ earlier) along)).0
-
       -- the call shows its cell
       call-shown : row_of call.ask.what ≡ Some row → IsThis (cell_on script.n (T) call.bay row) (cell_at script earlier row call.bay) → IsShownOf script.n (T) call
       call-shown = slot-shown script is earlier call along.1 row below script.n (T)
@@ -373,7 +369,7 @@ module _ (script : Script) (is : IsScript script) (row : RowNo) (below : row.0 <
       next-shown before of = by call.ask.what refl
         where
           taken : (past).past.phase ≤ 0 → IsShownOf script.n (T) call
-          taken low = call-shown of (bay-cell before (early low) call.bay call-within)
+          taken low = call-shown of (bay-cell before (early low) call.bay (call-within script is earlier call along))
 
           by : (what : Request) → call.ask.what ≡ what → IsShownOf script.n (T) call
           by (Share r id want) e = taken (may-as (Share r id want) e).1

@@ -2,12 +2,10 @@ pub mod Turns
 pub mod World
 pub mod Making
 pub mod Plays
-pub mod Faults
 pub mod RowStates
 pub mod Headline
 pub mod Laws
 pub mod Leftovers
-pub mod FirstForm
 pub mod Rows
 pub mod Gathering
 pub mod Ids

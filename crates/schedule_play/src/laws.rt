@@ -2,7 +2,6 @@
 ghost use Rattle.schedule_play.specs.Commits.{CommitsAreOfOwners};
 ghost use Rattle.schedule_play.specs.Contents.{ContentsAreCovered, RowsHoldContents, ContentsAreShown};
 ghost use Rattle.schedule_play.specs.Effects.{AttemptsTellCommits};
-ghost use Rattle.schedule_play.specs.FirstForm.{FirstPlaysAreSerial, FirstFormsAreFirst};
 ghost use Rattle.schedule_play.specs.Holding.{BlankNotesMend, UnitsAreOfWrites, AnsweredAreFree, HoldersKeepNotes, PuttersOwnRows, PutsAreOfOwners};
 ghost use Rattle.schedule_play.specs.Ids.{IdsAreApart};
 ghost use Rattle.schedule_play.specs.Laws.{OneIsMissing, AccessesAreCovered, NumbersRise, PutsAreCovered, CellsAreCommitted, ParityIsCovered, ParityIsKept, LostBlocksAreTorn, PlaysAreSerial};
@@ -11,18 +10,6 @@ ghost use Rattle.schedule_play.specs.Lone.{LoneHostsAreDone};
 ghost use Rattle.schedule_play.specs.Rising.{ContentsRise};
 ghost use Rattle.schedule_play.specs.Seen.{ContentsAreLate, ParitiesCount, ReadsSeeBelow, ReadsTellBelow};
 ghost use Rattle.schedule_play.specs.Told.{HostsHaveResults, NumbersAreApart, ResultsTell};
-
-/// One host writes a block of a row of two units under stamps, and then reads it. Each such play in which no store fails
-/// and which comes to its end is serial: its results and contents are those of a serial array, and so is each block that
-/// is seen at the end.
-pub fn first_plays_are_serial()
-    ensures { FirstPlaysAreSerial }
-{}
-
-/// What `script_text::read_first` takes for a script is such a script.
-pub fn first_forms_are_first()
-    ensures { FirstFormsAreFirst }
-{}
 
 /// One bay is missing at most: after every history of a script two bays that have a slot without a cell are the same.
 pub fn one_bay_is_missing()

@@ -2,7 +2,6 @@
 #![tactic(auto)]
 
 pub mod closing;
-pub mod faults;
 pub mod gathering;
 pub mod laws;
 pub mod making;

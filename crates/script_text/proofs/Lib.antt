@@ -1,7 +1,5 @@
-pub mod FirstLemmas
 pub mod WeightLemmas
 pub mod WriteTexts
-pub mod FirstScripts
 pub mod WordTexts
 pub mod FormLemmas
 pub mod JobSteps

@@ -2,7 +2,6 @@ pub mod Script
 pub mod Text
 pub mod Ranges
 pub mod Weights
-pub mod First
 pub mod Forms
 pub mod Faults
 pub mod Steps

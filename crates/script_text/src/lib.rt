@@ -1,7 +1,6 @@
 //! Scripts and their text.
 #![tactic(auto)]
 
-mod first;
 mod jobs;
 mod laws;
 mod lines;
@@ -13,7 +12,6 @@ mod weights;
 mod words;
 mod write;
 
-pub use first::{FirstForm, first_forms_are_scripts, is_first, read_first};
 pub use laws::{
     faults_are_told_where_they_are, scripts_have_their_own_texts, texts_without_fault_are_scripts,
 };
