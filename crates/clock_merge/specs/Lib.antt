@@ -1,0 +1,5 @@
+pub mod Merge
+pub mod Tied
+pub mod Heads
+pub mod Turns
+pub mod Rising

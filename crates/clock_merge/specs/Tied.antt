@@ -1,0 +1,62 @@
+-- Journals and transcripts of one run.
+use Rattle.std.specs.Prelude.{◌≡◌, ℕ, ◌<◌, ◌==◌, Bool, false, if◌then◌else◌, List, [], ◌∷◌, length, map, reverse, Option, Some, None, slice_get, slice_index_or}
+use Rattle.raid_base.specs.declared.numbers.HostNo.{HostNo}
+use Rattle.raid_base.specs.declared.numbers.BayNo.{BayNo}
+use Rattle.raid_base.specs.declared.messages.Call.{Call}
+use Rattle.raid_base.specs.declared.messages.Entry.{Entry}
+use Rattle.raid_base.specs.Replies.{is_fault}
+use Rattle.stripe_layout.specs.Placement.{bay}
+use Rattle.slot_rules.specs.Slots.{Bay, first_bay}
+use Rattle.slot_rules.specs.Replay.{Replays}
+use Rattle.script_text.specs.Script.{Script}
+use Rattle.script_text.specs.Ranges.{IsScript}
+use Rattle.host_engine.specs.Progress.{asks}
+use Rattle.host_engine.specs.History.{Faults, progress_at, entry_of, journal, transcript, IsHistory, play}
+use Rattle.clock_merge.specs.Merge.{Line, IsMerge, turn_of}
+
+-- the entries of a host, in their order
+abbrev pub entries_of : HostNo → List Entry → List Entry
+entries_of host [] = []
+entries_of host (entry ∷ entries) = let rest = entries_of host entries in if entry.ask.host.0 == host.0 then entry ∷ rest else rest
+
+-- the calls at a bay as entries of its journal, in their order; a transcript has the oldest call first
+abbrev pub calls_at : BayNo → List Call → List Entry
+calls_at bay [] = []
+calls_at bay (call ∷ calls) = let rest = calls_at bay calls in if call.bay.0 == bay.0 then entry_of call ∷ rest else rest
+
+-- For each host and bay, the host's calls at that bay are the bay's entries of that host.
+abbrev pub AreTied : List (List Entry) → (HostNo → List Call) → Type 0
+AreTied journals transcripts = (k : ℕ) → k < length journals → (host : HostNo) → entries_of host (slice_index_or journals k []) ≡ calls_at (bay k) (transcripts host)
+
+-- The calls of one host by itself: each is the next of its progress after the earlier ones; the newest first.
+abbrev pub IsHostRun : Script → HostNo → List Call → Type 0
+IsHostRun script host [] = Unit {0}
+IsHostRun script host (call ∷ earlier) =
+    IsHostRun script host earlier × (call.ask.host ≡ host) × (call.bay.0 < script.n)
+    × (asks host (progress_at script host earlier) call.ask.moment ≡ Some (record { bay = call.bay; ask = call.ask }))
+
+-- whether it has a Fault reply, false where there is none
+abbrev pub has_fault : Option Entry → Bool
+has_fault None = false
+has_fault (Some entry) = is_fault entry.reply
+
+-- whether the entry at a place of a bay's journal is a Fault
+abbrev pub faults_of : List (List Entry) → Faults
+faults_of journals bay place = has_fault (slice_get (slice_index_or journals bay.0 []) place)
+
+-- a history with these journals and transcripts
+pub record IsPlayOfMerge (script : Script) (journals : List (List Entry)) (transcripts : HostNo → List Call) (history : List Call) : Type 0 where
+  pub along : IsHistory script history
+  pub same_journals : (k : ℕ) → k < script.n → journal (bay k) history ≡ slice_index_or journals k []
+  pub same_transcripts : (host : HostNo) → transcript host history ≡ transcripts host
+
+-- Journals that replay, tied to transcripts of hosts of a script, are those of the play of their merge.
+abbrev pub MergedPlaysAreTied : Type 0
+MergedPlaysAreTied = (script : Script) (journals : List (List Entry)) (transcripts : HostNo → List Call) (lines : List Line) → IsScript script → length journals ≡ script.n →
+    ((k : ℕ) → k < script.n → (later : Bay) × (clock : ℕ) × Replays (first_bay script.mode script.rows script.patience) 0 (slice_index_or journals k []) later clock) →
+    ((host : HostNo) → IsHostRun script host (reverse (transcripts host))) → AreTied journals transcripts → IsMerge journals lines →
+    IsPlayOfMerge script journals transcripts (play script (faults_of journals) [] (map turn_of lines))
+
+-- Journals have one merge.
+abbrev pub MergesAreUnique : Type 0
+MergesAreUnique = (journals : List (List Entry)) (lines others : List Line) → IsMerge journals lines → IsMerge journals others → lines ≡ others

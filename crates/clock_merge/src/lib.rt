@@ -1,0 +1,10 @@
+//! The journals of devices merged by their clocks into the turns of one play.
+#![tactic(auto)]
+
+mod laws;
+mod merging;
+#[cfg(test)]
+mod tests;
+
+pub use laws::{journals_rise, merged_plays_are_tied, merges_are_unique};
+pub use merging::{Turns, merge};
