@@ -1,7 +1,8 @@
 -- Along every history accesses are covered.
-use Rattle.std.proofs.Common.{◌≡◌, inl, inr, ℕ, ◌<◌, ◌≤◌, ◌==◌, ◌&&◌, max, Bool, true, false, if◌then◌else◌, List, [], ◌∷◌, length, Option, Some, None, refl, sym, ap, subst, ◌∙◌, arith}
+use Rattle.std.proofs.Common.{◌≡◌, inl, inr, ℕ, ◌<◌, ◌≤◌, ◌==◌, max, Bool, true, false, if◌then◌else◌, List, [], ◌∷◌, length, Option, Some, None, refl, sym, ap, subst, ◌∙◌, arith, is_some}
 use Rattle.std.specs.List.{AllByRecursion}
 use Rattle.std.proofs.lemmas.Bool.Decides.{nat_tests}
+use Rattle.std.proofs.lemmas.Bool.{and_parts}
 use Rattle.raid_base.specs.declared.numbers.BayNo.{BayNo}
 use Rattle.raid_base.specs.declared.numbers.HostNo.{HostNo}
 use Rattle.raid_base.specs.declared.numbers.RowNo.{RowNo}
@@ -18,10 +19,11 @@ use Rattle.raid_base.specs.declared.messages.Reply.{Reply}
 use Rattle.raid_base.specs.declared.messages.Reply.TheVariants.{Granted, Busy, Late, Young, Missing, Held, NoNote, Done, Fault, Emptied, Fitted}
 use Rattle.raid_base.specs.Replies.{is_fault}
 use Rattle.raid_base.specs.Steps.{errand_of}
+use Rattle.raid_base.specs.declared.cells.Cell.{Cell}
 use Rattle.slot_rules.specs.Slots.{Slot, Bay, slot_of}
 use Rattle.slot_rules.specs.Rules.{note_id, rule}
 use Rattle.slot_rules.specs.Serving as serving
-use Rattle.slot_rules.specs.Laws.{read_number, write_number, CoversRead, CoversWrite}
+use Rattle.slot_rules.specs.Laws.{read_number, write_number, CoversRead, CoversWrite, put_number}
 use Rattle.slot_rules.specs.Laws as slots
 use Rattle.slot_rules.proofs.RowSteps.{RowStep, Touched, Passed, Bared, IsCapped, row_step, goes, capped}
 use Rattle.script_text.specs.Script.{Script}
@@ -34,7 +36,9 @@ use Rattle.schedule_play.specs.Laws.{with_some, writes, reads, AtMost, AccessesA
 use Rattle.schedule_play.specs.Ids.{is_id, calls_with, IsNoteClaim}
 use Rattle.schedule_play.proofs.AccessTrees.{IsAsked, next-asked}
 use Rattle.schedule_play.proofs.AccessHosts.{HasWork, this-id}
-use Rattle.schedule_play.proofs.AccessIds.{same-bay, bay-rows, starts-first, notes-claimed, AllApart, asked-errand, asker-few, all-apart}
+use Rattle.schedule_play.proofs.AccessIds.{notes-claimed, AllApart, asked-errand, asker-few, all-apart}
+use Rattle.schedule_play.proofs.SameNumbers.{same-number, same-bay}
+use Rattle.schedule_play.proofs.BayRows.{bay-rows, starts-first}
 
 -- A release with a number is of no note
 claim-reads-not : (reading : Bool) (id : Number) (at : BayNo) (row : RowNo) (note : Note) → note.id ≡ id → (calls : List Call) → Happened (IsNoteClaim at row note) calls →
@@ -58,9 +62,6 @@ claim-reads-not reading id at row note same (c ∷ cs) (inr h) all = by (is_id i
 -- the attempt that releases with a number reads
 release-reads : (reading : Bool) (id by : Number) (row : RowNo) (n : Number) → IsAsked reading id (Release row by (Some n)) → reading ≡ false → ⊥
 release-reads reading id by row n h e = let bad : Some n ≡ None = h.1 e in cc
-
-same-number : (x y : Number) → (x.0 == y.0) ≡ true → x ≡ y
-same-number x y e = let same : x.0 ≡ y.0 = grind (arith, nat_tests) in ap (λ (k : ℕ). record { 0 = k }) same
 
 pub free-hand : (host : HostNo) (earlier : List Call) (at : BayNo) (row : RowNo) (note : Note) (p : Progress) (work : Work) (call : Call) (id n : Number) →
     HasWork host earlier p.seen p.calls work → work_errand work ≡ Some (errand_of call) → call.ask.what ≡ Release row id (Some n) →
@@ -92,10 +93,6 @@ rows-same Fit = refl
 row-tests-same : (row : RowNo) (o : Option RowNo) → is_row row o ≡ slots.is_row row o
 row-tests-same row None = refl
 row-tests-same row (Some r) = refl
-
-both : (a b : Bool) → (a && b) ≡ true → (a ≡ true) × (b ≡ true)
-both true b h = (refl, h)
-both false b h = absurd (let bad : false ≡ true = h in cc)
 
 -- A read of the play is a read of the slot, where no note has the id of a release with a number
 done-read : (what : Request) (standing : Option Note) (n : Number) → ((row : RowNo) (id m : Number) → what ≡ Release row id (Some m) → note_id standing id ≡ false) →
@@ -162,24 +159,34 @@ read-shown Lock what reply standing n free h =
     subst (λ (r : Reply). read_number Lock standing what r ≡ Some n) (sym done)
     (done-read what standing n (free refl) (subst (λ (r : Reply). read_of Lock what r ≡ Some n) done h))
 
+-- a write is a put that was done
+pub done-put : (what : Request) (reply : Reply) → is_some (write_of what reply) ≡ true → (row : RowNo) × (id : Number) × (n : Number) × (cell : Cell) × (what ≡ Put row id n cell) × (reply ≡ Done)
+done-put (Put row id n cell) Done e = (row, id, n, cell, refl, refl)
+done-put (Put row id n cell) (Granted found read_no write_no last life seized) e = absurd (cc)
+done-put (Put row id n cell) (Busy holder) e = absurd (cc)
+done-put (Put row id n cell) (Late above) e = absurd (cc)
+done-put (Put row id n cell) (Young note) e = absurd (cc)
+done-put (Put row id n cell) (Missing floor) e = absurd (cc)
+done-put (Put row id n cell) (Held found) e = absurd (cc)
+done-put (Put row id n cell) (NoNote life) e = absurd (cc)
+done-put (Put row id n cell) Fault e = absurd (cc)
+done-put (Put row id n cell) Emptied e = absurd (cc)
+done-put (Put row id n cell) Fitted e = absurd (cc)
+done-put (Share row id want) reply e = absurd (cc)
+done-put (Claim row id how mask want) reply e = absurd (cc)
+done-put (Confirm row id want) reply e = absurd (cc)
+done-put (Release row id n) reply e = absurd (cc)
+done-put Lose reply e = absurd (cc)
+done-put Fit reply e = absurd (cc)
+
+pub written-as : (what : Request) (reply : Reply) (n : Number) → write_of what reply ≡ Some n → (put_number what ≡ Some n) × (reply ≡ Done)
+written-as what reply n e =
+    let put = done-put what reply (ap (λ (o : Option Number). is_some o) e) in
+    let here : write_of what reply ≡ Some put.2 = ap (λ (w : Request). write_of w reply) put.4 ∙ ap (λ (r : Reply). write_of (Put put.0 put.1 put.2 put.3) r) put.5 in
+    (ap (λ (w : Request). put_number w) put.4 ∙ sym here ∙ e, put.5)
+
 write-shown : (what : Request) (reply : Reply) (n : Number) → write_of what reply ≡ Some n → write_number what reply ≡ Some n
-write-shown (Put row id m cell) Done n h = h
-write-shown (Put row id m cell) (Granted seen read_no write_no last life seized) n h = absurd (let bad : None ≡ Some n = h in cc)
-write-shown (Put row id m cell) (Busy holder) n h = absurd (let bad : None ≡ Some n = h in cc)
-write-shown (Put row id m cell) (Late above) n h = absurd (let bad : None ≡ Some n = h in cc)
-write-shown (Put row id m cell) (Young note) n h = absurd (let bad : None ≡ Some n = h in cc)
-write-shown (Put row id m cell) (Missing floor) n h = absurd (let bad : None ≡ Some n = h in cc)
-write-shown (Put row id m cell) (Held seen) n h = absurd (let bad : None ≡ Some n = h in cc)
-write-shown (Put row id m cell) (NoNote life) n h = absurd (let bad : None ≡ Some n = h in cc)
-write-shown (Put row id m cell) Fault n h = absurd (let bad : None ≡ Some n = h in cc)
-write-shown (Put row id m cell) Emptied n h = absurd (let bad : None ≡ Some n = h in cc)
-write-shown (Put row id m cell) Fitted n h = absurd (let bad : None ≡ Some n = h in cc)
-write-shown (Share row id want) reply n h = absurd (let bad : None ≡ Some n = h in cc)
-write-shown (Claim row id how mask want) reply n h = absurd (let bad : None ≡ Some n = h in cc)
-write-shown (Confirm row id want) reply n h = absurd (let bad : None ≡ Some n = h in cc)
-write-shown (Release row id m) reply n h = absurd (let bad : None ≡ Some n = h in cc)
-write-shown Lose reply n h = absurd (let bad : None ≡ Some n = h in cc)
-write-shown Fit reply n h = absurd (let bad : None ≡ Some n = h in cc)
+write-shown what reply n e = let put = written-as what reply n e in ap (λ (r : Reply). write_number what r) put.1 ∙ put.0
 
 -- Steps of a bay
 module _ (bay after : Bay) (row : RowNo) (ask : Ask) (reply : Reply) (up : bay.high.0 ≤ after.high.0) where
@@ -238,7 +245,7 @@ module _ (script : Script) (is : IsScript script) (at : BayNo) (row : RowNo) (be
     after = (rule bay call.ask fails).bay
 
     within : row.0 < length bay.slots
-    within = let rows : length bay.slots ≡ script.rows = bay-rows script is at earlier in omega (arith, rows, below)
+    within = let rows : length bay.slots ≡ script.rows = bay-rows script at earlier in omega (arith, rows, below)
 
     reply-is : (call.bay.0 == at.0) ≡ true → call.answer.reply ≡ (rule bay call.ask fails).reply
     reply-is here =
@@ -275,7 +282,7 @@ module _ (script : Script) (is : IsScript script) (at : BayNo) (row : RowNo) (be
 
     mine : is_at at row call ≡ true → ((call.bay.0 == at.0) ≡ true) × (slots.is_row row (serving.row_of call.ask.what) ≡ true)
     mine h =
-        let first = both (call.bay.0 == at.0) (is_row row (row_of call.ask.what)) h in
+        let first = and_parts (call.bay.0 == at.0) (is_row row (row_of call.ask.what)) h in
         (first.0, sym (row-tests-same row (serving.row_of call.ask.what)) ∙ sym (ap (λ (o : Option RowNo). is_row row o) (rows-same call.ask.what)) ∙ first.1)
 
     reads-here : is_at at row call ≡ true → (n : Number) → read_of script.mode call.ask.what call.answer.reply ≡ Some n → CoversRead after row n
@@ -316,8 +323,8 @@ module _ (script : Script) (is : IsScript script) (at : BayNo) (row : RowNo) (be
   covers-all [] h = record {
     mode = refl;
     caps = record {
-      read = subst (λ (s : Slot). s.read_no.0 ≤ 0) (sym (starts-first script is at row below)) (omega arith);
-      write = subst (λ (s : Slot). s.write_no.0 ≤ 0) (sym (starts-first script is at row below)) (omega arith);
+      read = subst (λ (s : Slot). s.read_no.0 ≤ 0) (sym (starts-first script at row below)) (omega arith);
+      write = subst (λ (s : Slot). s.write_no.0 ≤ 0) (sym (starts-first script at row below)) (omega arith);
     };
     read = tt;
     written = tt;

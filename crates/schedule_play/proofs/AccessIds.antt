@@ -3,7 +3,6 @@ use Rattle.std.proofs.Common.{◌≡◌, ◌⊎◌, inl, inr, ℕ, ◌+◌, ◌%
 use Rattle.std.specs.Prelude.{nat_lt}
 use Rattle.std.specs.List.{AllByRecursion}
 use Rattle.std.proofs.lemmas.Bool.Decides.{nat_tests}
-use Rattle.std.proofs.lemmas.List.{get_or-replicate, length-replicate}
 use Rattle.raid_base.specs.declared.numbers.BayNo.{BayNo}
 use Rattle.raid_base.specs.declared.numbers.HostNo.{HostNo}
 use Rattle.raid_base.specs.declared.numbers.RowNo.{RowNo}
@@ -17,38 +16,26 @@ use Rattle.raid_base.specs.declared.messages.Request.TheVariants.{Share, Claim, 
 use Rattle.raid_base.specs.declared.messages.Reply.{Reply}
 use Rattle.raid_base.specs.declared.messages.Reply.TheVariants.{Granted, Busy, Late, Young, Missing, Held, NoNote, Done, Fault, Emptied, Fitted}
 use Rattle.raid_base.specs.declared.jobs.Job.{Job}
-use Rattle.raid_base.specs.Numbers.{number}
 use Rattle.raid_base.specs.Replies.{is_fault}
 use Rattle.raid_base.specs.Steps.{errand_of}
-use Rattle.slot_rules.specs.Slots.{Slot, Bay, bare_slot, first_slot, slot_of}
+use Rattle.slot_rules.specs.Slots.{Slot, Bay, slot_of}
 use Rattle.slot_rules.specs.Rules.{rule}
 use Rattle.slot_rules.specs.Serving.{row_of}
 use Rattle.slot_rules.specs.Laws.{claimed_note, NoteComes}
-use Rattle.slot_rules.proofs.RowSteps.{RowStep, Touched, Passed, Bared, row_step, goes}
+use Rattle.slot_rules.proofs.RowSteps.{RowStep, Touched, Passed, Bared, row_step}
 use Rattle.script_text.specs.Script.{Script, HostJobs, jobs_in, jobs_of}
 use Rattle.script_text.specs.Ranges.{IsScript, Rise}
 use Rattle.host_engine.specs.Calls.{Happened, id_of}
-use Rattle.host_engine.specs.Progress.{Progress, Work, Trying, Losing, Fitting, Over, Sent, start_jobs, call_counted, work_told, work_errand, sent_by}
+use Rattle.host_engine.specs.Progress.{Progress, Work, Trying, Losing, Fitting, Over, start_jobs, call_counted, work_told, work_errand}
 use Rattle.host_engine.specs.History.{IsHistory, IsNext, progress_at, if_taken, bay_at, if_ruled}
 use Rattle.host_engine.proofs.BoundsTakes.{before_start}
+use Rattle.host_engine.proofs.Attempting.{sent-errand}
 use Rattle.schedule_play.specs.RowStates.{slot_at}
 use Rattle.schedule_play.specs.Ids.{calls_with, IsOwnId, IsSeenBy, IsNoteClaim, IdsAreApart}
 use Rattle.schedule_play.proofs.AccessTrees.{next-asked}
 use Rattle.schedule_play.proofs.AccessHosts.{HasWork, Apart, asked-id, jobs-apart, takes-apart, other-apart, own-next}
-
-pub same-bay : (a b : BayNo) → (a.0 == b.0) ≡ true → a ≡ b
-same-bay a b e = let same : a.0 ≡ b.0 = grind (arith, nat_tests) in ap (λ (k : ℕ). record { 0 = k }) same
-
-same-host : (a b : HostNo) → (a.0 == b.0) ≡ true → a ≡ b
-same-host a b e = let same : a.0 ≡ b.0 = grind (arith, nat_tests) in ap (λ (k : ℕ). record { 0 = k }) same
-
--- the errand of a request that was sent
-sent-errand : (host : HostNo) (clock moment : ℕ) (e : Option Errand) (bay : BayNo) (ask : Ask) → sent_by host clock moment e ≡ Some (record { bay = bay; ask = ask }) →
-    e ≡ Some (record { bay = bay; request = ask.what })
-sent-errand host clock moment None bay ask h = absurd (cc)
-sent-errand host clock moment (Some errand) bay ask h =
-    let same : record { bay = errand.bay; ask = record { host = host; clock = clock; moment = moment; what = errand.request } } ≡ record { bay = bay; ask = ask } = cc in
-    ap (λ (s : Sent). Some (record { bay = s.bay; request = s.ask.what })) same
+use Rattle.schedule_play.proofs.SameNumbers.{same-bay, same-host}
+use Rattle.schedule_play.proofs.BayRows.{bay-rows, starts-first}
 
 -- A host of a script is below 16, and another one has no jobs
 few-or-idle : (from : ℕ) (host : HostNo) (hosts : List HostJobs) → Rise from (map (λ (h : HostJobs). h.host) hosts) →
@@ -118,21 +105,10 @@ step-note bay after at row reply note call place (Passed same is e) opened = inr
 step-note bay after at row reply note call place (Bared n same is e z l) opened = absurd (let bad : None ≡ Some note = ap (λ (s : Slot). s.note) (sym same) ∙ opened in cc)
 
 module _ (script : Script) (is : IsScript script) where
-  ruled-rows : (bay : Bay) (call : Call) (own : Bool) → length bay.slots ≡ script.rows → length (if_ruled bay call own).slots ≡ script.rows
-  ruled-rows bay call true e = (goes bay call.ask (is_fault call.answer.reply)).rows ∙ e
-  ruled-rows bay call false e = e
-
-  pub bay-rows : (at : BayNo) (history : List Call) → length (bay_at script at history).slots ≡ script.rows
-  bay-rows at [] = length-replicate script.rows first_slot
-  bay-rows at (call ∷ earlier) = ruled-rows (bay_at script at earlier) call (call.bay.0 == at.0) (bay-rows at earlier)
-
-  pub starts-first : (at : BayNo) (row : RowNo) → row.0 < script.rows → slot_at script [] at row ≡ first_slot
-  starts-first at row below = get_or-replicate script.rows row.0 first_slot (bare_slot (number 0)) below
-
   -- notes
   pub notes-claimed : (history : List Call) (at : BayNo) (row : RowNo) (note : Note) → row.0 < script.rows → (slot_at script history at row).note ≡ Some note →
       Happened (IsNoteClaim at row note) history
-  notes-claimed [] at row note below opened = absurd (let bad : None ≡ Some note = ap (λ (s : Slot). s.note) (sym (starts-first at row below)) ∙ opened in cc)
+  notes-claimed [] at row note below opened = absurd (let bad : None ≡ Some note = ap (λ (s : Slot). s.note) (sym (starts-first script at row below)) ∙ opened in cc)
   notes-claimed (call ∷ earlier) at row note below opened = by (call.bay.0 == at.0) refl opened (notes-claimed earlier at row note below)
     where
       bay : Bay
@@ -147,7 +123,7 @@ module _ (script : Script) (is : IsScript script) where
           IsNoteClaim at row note call ⊎ Happened (IsNoteClaim at row note) earlier
       by true e here before =
           let fails : Bool = is_fault call.answer.reply in
-          let rows : length bay.slots ≡ script.rows = bay-rows at earlier in
+          let rows : length bay.slots ≡ script.rows = bay-rows script at earlier in
           either
           (step-note bay (rule bay call.ask fails).bay at row (rule bay call.ask fails).reply note call (same-bay call.bay at e)
           (row_step bay call.ask fails row (omega (arith, rows, below))) here)

@@ -27,7 +27,7 @@ use Rattle.script_text.specs.Script.{Script}
 use Rattle.script_text.specs.Ranges.{IsScript}
 use Rattle.host_engine.specs.Calls.{Happened, IsClaim, id_of}
 use Rattle.host_engine.specs.Hands.{Phased, past_of}
-use Rattle.host_engine.specs.Progress.{Work, Progress, task_of}
+use Rattle.host_engine.specs.Progress.{Work, task_of}
 use Rattle.host_engine.specs.History.{IsHistory, progress_at, bay_at}
 use Rattle.host_engine.proofs.PhasedHands.{phased}
 use Rattle.schedule_play.specs.RowStates.{slot_at}
@@ -36,12 +36,17 @@ use Rattle.schedule_play.specs.Hands.{HasHand, calls_at, IsPutter, IsRecoveryOf,
 use Rattle.schedule_play.specs.Holding.{HasNote, IsMendClaim, AnsweredAreFree}
 use Rattle.schedule_play.proofs.AccessTrees.{IsAsked}
 use Rattle.schedule_play.proofs.AccessHosts as access
-use Rattle.schedule_play.proofs.AccessIds.{starts-first, all-apart, ids_are_apart}
+use Rattle.schedule_play.proofs.AccessIds.{all-apart, ids_are_apart}
 use Rattle.schedule_play.proofs.HandMoves.{Goes, Stays, Came, Stayed, Begun, Went, came, may-next}
 use Rattle.schedule_play.proofs.SlotDoes.{IsGone}
 use Rattle.schedule_play.proofs.BlankNotes.{blank_notes_mend}
 use Rattle.schedule_play.proofs.AnsweredFreeNotes.{Takes, note-came, granted-now, held-now, gone-now, empty-bare, seized-now}
-use Rattle.schedule_play.proofs.AnsweredFreeHands.{confirmed-late, Confirms, confirmed-now, own-ids, parity-claimed, claims-new, seizes-next, has-seized}
+use Rattle.schedule_play.proofs.AnsweredFreeHands.{own-ids, parity-claimed}
+use Rattle.schedule_play.proofs.SameNumbers.{both-held}
+use Rattle.schedule_play.proofs.HolderNotesHands.{confirmed-late, Confirms, Before, Now, confirmed-by}
+use Rattle.schedule_play.proofs.HandClaims.{made-kind, next-kind, next-untaken, claimed-taken, recovers-seize}
+use Rattle.schedule_play.proofs.RowOwnersHands.{happened-in}
+use Rattle.schedule_play.proofs.BayRows.{starts-first}
 
 pub happened-map : (P Q : Call → Type 0) → ((call : Call) → P call → Q call) → (calls : List Call) → Happened P calls → Happened Q calls
 happened-map P Q f [] h = h
@@ -85,12 +90,6 @@ tasks-apart row (tasks.Rebuild bay) y same r p = r
 tasks-apart row (tasks.Lose bay) y same r p = r
 tasks-apart row (tasks.Fit bay) y same r p = r
 
-both-named : (x y : Number) (o : Option Number) → o ≡ Some x → o ≡ Some y → x ≡ y
-both-named x y o a b = let same : Some x ≡ Some y = sym a ∙ b in cc
-
-same-task : (x y : Task) (o : Option Task) → o ≡ Some x → o ≡ Some y → x ≡ y
-same-task x y o a b = let same : Some x ≡ Some y = sym a ∙ b in cc
-
 module _ (script : Script) (is : IsScript script) where
   -- all calls with the id of an attempt that has made one are its calls
   own-calls : (history : List Call) → IsHistory script history → (host : HostNo) (steps : Steps Finish) (h : HasHand script history host steps) (P : Call → Type 0) →
@@ -106,10 +105,10 @@ module _ (script : Script) (is : IsScript script) where
       one : w.id ≡ h.hand.id
       one =
           first-has P (λ (c : Call). IsAsked w.reading w.id c.ask.what) (λ (c : Call). id_of c.ask.what ≡ Some h.hand.id) (w.id ≡ h.hand.id)
-          (λ c asked named. both-named w.id h.hand.id (id_of c.ask.what) (access.asked-id w.reading w.id c.ask.what asked) named) (calls_at script history host) w.asked
+          (λ c asked named. both-held w.id h.hand.id (id_of c.ask.what) (access.asked-id w.reading w.id c.ask.what asked) named) (calls_at script history host) w.asked
           (own-ids script is host (progress_at script host history) steps h.hand (calls_at script history host) (record { seen = (progress_at script host history).seen; steps = steps }) h.hand.led) made
 
-module _ (once : AttemptsAskOnce) (kinds : ClaimsAreOfTheirKind) (script : Script) (is : IsScript script) (row : RowNo) (below : row.0 < script.rows) (unit : ℕ) (within : unit + 1 < script.n)
+module _ (script : Script) (is : IsScript script) (row : RowNo) (below : row.0 < script.rows) (unit : ℕ) (within : unit + 1 < script.n)
     (finder holder : HostNo) where
   abbrev P : BayNo
   P = parity_bay script.n row
@@ -131,7 +130,7 @@ module _ (once : AttemptsAskOnce) (kinds : ClaimsAreOfTheirKind) (script : Scrip
   hosts-apart history finding holding r h recovery putter same =
       let one : finder ≡ holder = ap (λ (k : ℕ). let x : HostNo = record { 0 = k } in x) same in
       tasks-apart row r.hand.task h.hand.task
-      (same-task r.hand.task h.hand.task (task_of (progress_at script holder history).jobs) (ap (λ (x : HostNo). task_of (progress_at script x history).jobs) (sym one) ∙ r.hand.first) h.hand.first) recovery
+      (both-held r.hand.task h.hand.task (task_of (progress_at script holder history).jobs) (ap (λ (x : HostNo). task_of (progress_at script x history).jobs) (sym one) ∙ r.hand.first) h.hand.first) recovery
       putter
 
   -- the parity's note isn't both the recovery's and a rebuild's
@@ -145,10 +144,9 @@ module _ (once : AttemptsAskOnce) (kinds : ClaimsAreOfTheirKind) (script : Scrip
       let theirs : Happened (IsMendClaim P row n.0) (calls_with r.hand.id history) = subst (λ (x : Number). Happened (IsMendClaim P row n.0) (calls_with x history)) n.2 own in
       let here : Happened (IsMendClaim P row n.0) (calls_at script history finder) =
       subst (λ (cs : List Call). Happened (IsMendClaim P row n.0) cs) (own-calls script is history along finder finding r (IsAnswered U row) answered) theirs in
-      let p : Progress = progress_at script finder history in
-      let bad : Mend ≡ Seize = has-seized script is once kinds finder p finding r.hand row recovery Mend
-      (happened-map (IsMendClaim P row n.0) (λ (call : Call). (x : RowNo) × (id : Number) × (mask : ℕ) × (want : Bool) × (call.ask.what ≡ Claim x id Mend mask want))
-      (λ call h. (row, n.0.id, h.2, h.3, h.4)) p.calls here) in
+      let mend = happened-in (calls_at script history finder) here in
+      let made = (made-kind script is history finder finding r mend.0 mend.1 row n.0.id Mend mend.2.2 mend.2.3 mend.2.4).0 in
+      let bad : Mend ≡ Seize = made ∙ recovers-seize row r.hand.task recovery in
       absurd (cc)
 
   module _ (earlier : List Call) (call : Call) (along : IsHistory script (call ∷ earlier)) where
@@ -226,19 +224,19 @@ module _ (once : AttemptsAskOnce) (kinds : ClaimsAreOfTheirKind) (script : Scrip
             subst (λ (w : Request). MayAsk script.n b.before.hand.id holder-phased.past call.bay w) is
             (may-next script.n b.before.hand.id holder-phased.past b.steps (errand_of call) holder-phased.keeps b.asked)
 
-        no-confirm : Confirms row (past_of (calls_at script earlier holder)).granted call → ⊥
-        no-confirm c = by (has_slot (record { bay = call.bay; row = row }) (past_of (calls_at script earlier holder)).granted) c.due
+        no-confirm : (id : Number) (want : Bool) → call.ask.what ≡ Confirm row id want → is_due (has_slot (record { bay = call.bay; row = row }) (past_of (calls_at script earlier holder)).granted) call.answer.reply ≡ true → ⊥
+        no-confirm id want what due = by (has_slot (record { bay = call.bay; row = row }) (past_of (calls_at script earlier holder)).granted) due
           where
-            may : MayAsk script.n b.before.hand.id holder-phased.past call.bay (Confirm row c.id c.want)
-            may = holder-may (Confirm row c.id c.want) c.what
+            may : MayAsk script.n b.before.hand.id holder-phased.past call.bay (Confirm row id want)
+            may = holder-may (Confirm row id want) what
 
             by : (granted : Bool) → is_due granted call.answer.reply ≡ true → ⊥
             by true due =
-                let noted : HasNote c.id (slot_at script earlier P row).note = held-now script is P row below earlier call along.1 c.id c.want may.2 c.what due in
-                let one : a.before.hand.id ≡ c.id = one-note a.before.hand.id c.id (slot_at script earlier P row).note (stood-seized a) noted in
+                let noted : HasNote id (slot_at script earlier P row).note = held-now script is P row below earlier call along.1 id want may.2 what due in
+                let one : a.before.hand.id ≡ id = one-note a.before.hand.id id (slot_at script earlier P row).note (stood-seized a) noted in
                 ids-apart a.before.hand.id b.before.hand.id a.before.hand.own b.before.hand.own (one ∙ may.0)
             by false due =
-                not-mends earlier along.0 finding a.before recovered (stood-seized a) answered-before (gone-now script is P row below earlier call along.1 c.id c.want may.2 c.what due)
+                not-mends earlier along.0 finding a.before recovered (stood-seized a) answered-before (gone-now script is P row below earlier call along.1 id want may.2 what due)
 
         no-claim : IsIn row (past_of (calls_at script earlier holder)).confirmed → (how : How) (mask : ℕ) (want : Bool) → call.ask.what ≡ Claim row b.before.hand.id how mask want → ⊥
         no-claim confirmed how mask want what =
@@ -248,7 +246,8 @@ module _ (once : AttemptsAskOnce) (kinds : ClaimsAreOfTheirKind) (script : Scrip
             absurd (omega (arith, early, no_later, late))
 
         holder-goes : ⊥
-        holder-goes = by (confirmed-now call (calls_at script earlier holder) row (subst (λ (cs : List Call). IsIn row (past_of cs).confirmed) b.calls m.confirmed))
+        holder-goes =
+            by (confirmed-by row (past_of (calls_at script earlier holder)) call.bay call.ask.what call.answer.reply (subst (λ (cs : List Call). IsIn row (past_of cs).confirmed) b.calls m.confirmed))
           where
             noted : HasNote b.before.hand.id (slot_at script (call ∷ earlier) U row).note
             noted = subst (λ (x : Number). HasNote x (slot_at script (call ∷ earlier) U row).note) (sym b.same_id) m.held
@@ -266,9 +265,9 @@ module _ (once : AttemptsAskOnce) (kinds : ClaimsAreOfTheirKind) (script : Scrip
                   held = held;
                 })
 
-            by : Confirms row (past_of (calls_at script earlier holder)).granted call ⊎ IsIn row (past_of (calls_at script earlier holder)).confirmed → ⊥
-            by (inl c) = no-confirm c
-            by (inr confirmed) = held-by confirmed (note-came script is U row below earlier call along.1 b.before.hand.id noted)
+            by : Confirms row (past_of (calls_at script earlier holder)) call.bay call.ask.what call.answer.reply → ⊥
+            by (Now id want what due) = no-confirm id want what due
+            by (Before confirmed) = held-by confirmed (note-came script is U row below earlier call along.1 b.before.hand.id noted)
 
       -- A call of the recovery: its claim of the parity comes first, and that of the unit leaves its own note or none
       module _ (a : FinderGoes) (b : HolderStays) where
@@ -289,7 +288,7 @@ module _ (once : AttemptsAskOnce) (kinds : ClaimsAreOfTheirKind) (script : Scrip
             let one : id ≡ h.hand.id = one-note id h.hand.id (slot_at script (call ∷ earlier) U row).note noted m.held in
             ids-apart r.hand.id h.hand.id r.hand.own h.hand.own (sym (finder-id id how mask want what) ∙ one)
         answered-now ((place, id, how, mask, want, what), inr (floor, missing)) =
-            let seizes : how ≡ Seize = seizes-next script is once kinds finder (progress_at script finder earlier) a.steps a.before.hand row recovers (errand_of call) row id how mask want a.asked what in
+            let seizes : how ≡ Seize = (next-kind script is earlier finder a.steps a.before call a.asked row id how mask want what).0 ∙ recovers-seize row a.before.hand.task recovers in
             let none : (slot_at script (call ∷ earlier) U row).note ≡ None =
             seized-now script is U row below earlier call along id mask want place (what ∙ ap (λ (x : How). Claim row id x mask want) seizes) (ap (λ (x : Reply). is_missing x) missing) in
             no-note h.hand.id (slot_at script (call ∷ earlier) U row).note none m.held
@@ -305,8 +304,8 @@ module _ (once : AttemptsAskOnce) (kinds : ClaimsAreOfTheirKind) (script : Scrip
 
             by : ((call.bay ≡ P) × Takes row a.before.hand.id call.ask.what) ⊎ HasNote a.before.hand.id (slot_at script earlier P row).note → ⊥
             by (inl (place, (how, mask, want, what))) =
-                claims-new script is once kinds finder (progress_at script finder earlier) a.steps a.before.hand row recovers (errand_of call) row a.before.hand.id how mask want a.asked what
-                (subst (λ (x : BayNo). IsIn (record { bay = x; row = row }) (past_of (calls_at script earlier finder)).claimed) (sym place) claimed)
+                next-untaken script is earlier finder a.steps a.before call a.asked P row (inr (place, a.before.hand.id, how, mask, want, what))
+                (claimed-taken (record { bay = P; row = row }) (calls_at script earlier finder) claimed)
             by (inr seized) =
                 before a.steps holding a.before b.before
                 (record {
@@ -338,12 +337,12 @@ module _ (once : AttemptsAskOnce) (kinds : ClaimsAreOfTheirKind) (script : Scrip
 
   never-meets : (history : List Call) → IsHistory script history → (finding holding : Steps Finish) (r : HasHand script history finder finding) (h : HasHand script history holder holding) →
       Meets history finding holding r h → ⊥
-  never-meets [] along finding holding r h m = no-note r.hand.id (slot_at script [] P row).note (ap (λ (s : Slot). s.note) (starts-first script is P row below)) m.seized
+  never-meets [] along finding holding r h m = no-note r.hand.id (slot_at script [] P row).note (ap (λ (s : Slot). s.note) (starts-first script P row below)) m.seized
   never-meets (call ∷ earlier) along finding holding r h m =
       meets-next earlier call along (never-meets earlier along.0) finding holding r h m (came script is earlier call along.0 along.1 finder finding r)
       (came script is earlier call along.0 along.1 holder holding h)
 
 pub answered_are_free : AttemptsAskOnce → ClaimsAreOfTheirKind → AnsweredAreFree
 answered_are_free once kinds script history is along finder holder finding holding r h row unit below within recovery seized answered putter confirmed held =
-    never-meets once kinds script is row below unit within finder holder history along finding holding r h
+    never-meets script is row below unit within finder holder history along finding holding r h
     (record { recovery = recovery; seized = seized; answered = answered; putter = putter; confirmed = confirmed; held = held })

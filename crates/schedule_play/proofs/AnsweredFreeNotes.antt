@@ -27,10 +27,10 @@ use Rattle.host_engine.specs.Calls.{row_of, is_row, is_at}
 use Rattle.host_engine.specs.History.{IsNext, IsHistory, bay_at}
 use Rattle.schedule_play.specs.RowStates.{slot_at}
 use Rattle.schedule_play.specs.Holding.{HasNote}
-use Rattle.schedule_play.proofs.AccessIds.{starts-first}
 use Rattle.schedule_play.proofs.SlotMoves.{SlotMove, Kept, Touched, Lost, outcome_at, moved}
 use Rattle.schedule_play.proofs.SlotMoves as moves
-use Rattle.schedule_play.proofs.SlotDoes.{IsGone, Claims, Does, Refuses, Closes, Grants, Shows, Holds, Puts, Frees, Leaves, slot-does}
+use Rattle.schedule_play.proofs.SlotDoes.{IsGone, Claims, Does, Refuses, Closes, Grants, Shows, Holds, Puts, Frees, Leaves, slot-does, claimed-id, refused-grants}
+use Rattle.schedule_play.proofs.BayRows.{starts-first}
 
 -- a claim of this row with this id
 abbrev pub Takes : RowNo → Number → Request → Type 0
@@ -45,19 +45,6 @@ named-own (Some note) id e = let same : note.id.0 ≡ id.0 = grind (arith, nat_t
 
 no-way : {X : Type 0} → false ≡ true → X
 no-way h = absurd (cc)
-
-pub refused-grants : {X : Type 0} (r : Reply) → is_refused r ≡ true → IsSome (grant_of r) → X
-refused-grants (Granted cell read_no write_no last life seized) refused granted = no-way refused
-refused-grants (Busy holder) refused granted = no-way granted
-refused-grants (Late above) refused granted = no-way granted
-refused-grants (Young note) refused granted = no-way granted
-refused-grants (Missing floor) refused granted = no-way granted
-refused-grants (Held cell) refused granted = no-way refused
-refused-grants (NoNote life) refused granted = no-way granted
-refused-grants Done refused granted = no-way refused
-refused-grants Fault refused granted = no-way granted
-refused-grants Emptied refused granted = no-way refused
-refused-grants Fitted refused granted = no-way refused
 
 refused-held : {X : Type 0} (r : Reply) → is_refused r ≡ true → is_held r ≡ true → X
 refused-held (Granted cell read_no write_no last life seized) refused held = no-way refused
@@ -84,10 +71,6 @@ floor-of Done h = no-way h
 floor-of Fault h = no-way h
 floor-of Emptied h = no-way h
 floor-of Fitted h = no-way h
-
-pub claimed-id : (ask : Ask) (id : Number) (mask : ℕ) (old : Option Note) → (claimed_note ask id mask old).id ≡ id
-claimed-id ask id mask None = refl
-claimed-id ask id mask (Some note) = refl
 
 module _ (bay : Bay) (ask : Ask) (slot : Slot) (row : RowNo) where
   claimed-step : (id : Number) (r : RowNo) (by : Number) (how : How) (mask : ℕ) (want : Bool) (reply : Reply) (left : Slot) → Claims bay ask slot by how mask want reply left → r ≡ row →
@@ -272,7 +255,7 @@ module _ (script : Script) (is : IsScript script) (at : BayNo) (row : RowNo) (be
         by (moves.Fitted place what was slot empty life) = ap (λ (s : Slot). s.note) slot
 
   pub empty-bare : (history : List Call) → IsHistory script history → (bay_at script at history).empty ≡ true → (slot_at script history at row).note ≡ None
-  empty-bare [] along empty = ap (λ (s : Slot). s.note) (starts-first script is at row below)
+  empty-bare [] along empty = ap (λ (s : Slot). s.note) (starts-first script at row below)
   empty-bare (call ∷ earlier) along empty = empty-next earlier call along.1 (empty-bare earlier along.0) empty
 
   -- a seizure that is answered missing leaves no note

@@ -41,35 +41,26 @@ use Rattle.schedule_play.specs.Holding.{HasNote, MayPutTo, CameFrom, Owns}
 use Rattle.schedule_play.specs.Laws.{reads, AllBelow}
 use Rattle.schedule_play.proofs.AccessCovers.{all-map}
 use Rattle.schedule_play.proofs.AnsweredFreeNotes.{floor-of, held-now}
-use Rattle.schedule_play.proofs.HandClaims.{kind_of, made-kind}
-use Rattle.schedule_play.proofs.HandMoves.{may-next, Came, Stays, Goes, Stayed, Begun, Went, came}
+use Rattle.schedule_play.proofs.HandClaims.{made-kind}
+use Rattle.schedule_play.proofs.HandMoves.{may-next, Came, Stays, Goes, Stayed, Begun, Went, came, id-is-own}
 use Rattle.schedule_play.proofs.HoldingLaws.{putters_own_rows}
-use Rattle.schedule_play.proofs.HolderNotesHands.{Confirms, Before, Now, confirmed-by}
+use Rattle.schedule_play.proofs.HolderNotesHands.{Confirms, Before, Now, confirmed-by, confirmed-late}
 use Rattle.schedule_play.proofs.OwnedPuts as owned
 use Rattle.schedule_play.proofs.OwnedPuts.{all-in}
 use Rattle.schedule_play.proofs.RowOwnersCalls.{IsNote, has-noted, noted-has}
-use Rattle.schedule_play.proofs.RowOwnersHands.{Asker, asker, happened-in, happened-own, other-id, stands-behind, may-before, may-asks, confirmed-late}
+use Rattle.schedule_play.proofs.RowOwnersHands.{Asker, asker, happened-in, happened-own, other-id, stands-behind, may-before, may-asks}
 use Rattle.schedule_play.proofs.RowOwnersSlots.{FromClaim, does-at, note-from}
 use Rattle.schedule_play.proofs.RowOwnersTasks.{Putter}
 use Rattle.schedule_play.proofs.SlotDoes.{Does, Refuses, Closes, Grants, Shows, Holds, Puts, Frees, Leaves}
 use Rattle.schedule_play.proofs.SlotMoves.{SlotMove, Kept, Touched, Lost, Fitted, moved}
 use Rattle.schedule_play.proofs.ContentPuts.{commits-are, may-put, mend-puts}
-use Rattle.schedule_play.proofs.ContentPutters.{own-id, own-noted}
+use Rattle.schedule_play.proofs.ContentPutters.{own-noted}
 use Rattle.schedule_play.proofs.ContentStates.{IsWriteTask}
 use Rattle.schedule_play.proofs.ContentTrees.{MayPut, Writes, Rebuilds, Recovers}
-use Rattle.schedule_play.proofs.ContentWriteFacts.{not-blank}
+use Rattle.schedule_play.proofs.ContentWriteFacts.{not-blank, writes-plain}
 use Rattle.schedule_play.proofs.ReadSlots.{ReadMove, Quiet, Read, read-moved, CoversReads, floor-covers-reads, bare-unread}
 use Rattle.schedule_play.proofs.ParityReads.{parity-reads-covered, reads-under}
 use Rattle.schedule_play.proofs.RisingCommits.{write-rises, TakesOne}
-
--- a write claims plainly
-plain-write : (task : Task) → IsWriteTask task → kind_of task ≡ Plain
-plain-write (tasks.Write object first from count) w = refl
-plain-write (tasks.Read object first count) w = absurd w
-plain-write (tasks.Recover row) w = absurd w
-plain-write (tasks.Rebuild bay) w = absurd w
-plain-write (tasks.Lose bay) w = absurd w
-plain-write (tasks.Fit bay) w = absurd w
 
 -- a slot that has no cell after a request had none before it
 does-bare : (bay : Bay) (ask : Ask) (slot : Slot) (what : Request) (reply : Reply) (left : Slot) → Does bay ask slot what reply left → left.cell ≡ None → slot.cell ≡ None
@@ -114,7 +105,7 @@ module _ (script : Script) (is : IsScript script) (row : RowNo) (below : row.0 <
     where
       less : script.mode ≡ Order → IsClaim (P) row c → cover.number.0 < h.hand.id.0
       less order (at, by, how, mask, want, asks) =
-          let kind : how ≡ Plain = (made-kind script is history host steps h c i row by how mask want asks).0 ∙ plain-write h.hand.task writes in
+          let kind : how ≡ Plain = (made-kind script is history host steps h c i row by how mask want asks).0 ∙ writes-plain h.hand.task writes in
           let both : Some by ≡ Some h.hand.id = sym (ap (λ (w : Request). id_of w) asks) ∙ named in
           let one : by ≡ h.hand.id = cc in
           let low : cover.number.0 < by.0 = cover.late order row by mask want (asks ∙ ap (λ (x : How). Claim row by x mask want) kind) some in
@@ -237,7 +228,7 @@ module _ (script : Script) (is : IsScript script) (row : RowNo) (below : row.0 <
               let may : MayAsk script.n goes.before.hand.id (phases).past call.bay (Claim row h.hand.id how mask want) =
               subst (λ (w : Request). MayAsk script.n goes.before.hand.id (phases).past call.bay w) claims may-ask in
               let early : (phases).past.phase ≤ 0 = may.1 in
-              let one : 1 ≤ (past_of (Calls)).phase = confirmed-late row (Calls) confirmed in
+              let one : 1 ≤ (past_of (Calls)).phase = confirmed-late (Calls) row confirmed in
               let up : (past_of (Calls)).phase ≤ (phases).past.phase = (phases).same.phase in
               absurd (omega (arith, one, up, early))
 
@@ -330,7 +321,7 @@ module _ (script : Script) (is : IsScript script) (row : RowNo) (below : row.0 <
         let sent : next_errand steps ≡ Some (record { bay = U; request = Put row t.id t.number t.cell }) =
         asked ∙ ap (λ (b : BayNo). Some (record { bay = b; request = call.ask.what })) place ∙ ap (λ (w : Request). Some (record { bay = U; request = w })) t.what in
         let may : MayPutTo (Host) (Stand) (U) row t.id = ([], Stand, refl, t.number, t.cell, sent) in
-        subst (λ (x : Number). MayPutTo (Host) (Stand) (U) row x) (own-id script is earlier call along row below (U) t.id t.number t.cell place t.what t.done steps h asked) may
+        subst (λ (x : Number). MayPutTo (Host) (Stand) (U) row x) (id-is-own script is earlier (Host) steps h call asked t.id (ap (λ (w : Request). id_of w) t.what)) may
 
     puts : Putter script earlier (Host) steps h row unit
     puts = record {

@@ -22,9 +22,9 @@ use Rattle.host_engine.specs.Calls.{Happened, row_of}
 use Rattle.host_engine.specs.History.{IsNext, IsHistory, bay_at}
 use Rattle.schedule_play.specs.RowStates.{slot_at, cell_at}
 use Rattle.schedule_play.specs.Holding.{IsMendClaim, BlankNotesMend}
-use Rattle.schedule_play.proofs.AccessIds.{starts-first}
 use Rattle.schedule_play.proofs.SlotMoves.{SlotMove, Kept, Touched, Lost, Fitted, outcome_at, moved}
 use Rattle.schedule_play.proofs.SlotDoes.{Claims, Does, Refuses, Closes, Grants, Shows, Holds, Puts, Frees, Leaves, slot-does}
+use Rattle.schedule_play.proofs.BayRows.{starts-first}
 
 -- the request claimed the slot to mend it, and left this note
 record Mends (ask : Ask) (row : RowNo) (what : Request) (note : Note) : Type 0 where
@@ -107,7 +107,7 @@ module _ (script : Script) (is : IsScript script) (at : BayNo) (row : RowNo) (be
     blank-next (Fitted place what was slot empty life) = absurd (let bad : None ≡ Some note = ap (λ (s : Slot). s.note) (sym slot) ∙ blank.1 in cc)
 
   blank-mends : (history : List Call) → IsHistory script history → IsBlank history → IsMended history
-  blank-mends [] along blank = absurd (let bad : Some zero_cell ≡ None = ap (λ (s : Slot). s.cell) (sym (starts-first script is at row below)) ∙ blank.0 in cc)
+  blank-mends [] along blank = absurd (let bad : Some zero_cell ≡ None = ap (λ (s : Slot). s.cell) (sym (starts-first script at row below)) ∙ blank.0 in cc)
   blank-mends (call ∷ earlier) along blank = blank-next earlier call along.1 (blank-mends earlier along.0) blank (moved script is earlier call along.1 at row below)
 
 pub blank_notes_mend : BlankNotesMend

@@ -44,7 +44,7 @@ use Rattle.schedule_play.specs.Laws.{content_at}
 use Rattle.schedule_play.specs.Hands.{HasHand, calls_at, IsPutter}
 use Rattle.schedule_play.specs.Holding.{HasNote}
 use Rattle.schedule_play.specs.Contents.{is_parity_put, base_at, cell_with, cells_with, HoldsContents}
-use Rattle.schedule_play.proofs.HandMoves.{may-next, asked-id}
+use Rattle.schedule_play.proofs.HandMoves.{may-next, id-is-own}
 use Rattle.schedule_play.proofs.HandClaims.{IsTake, Before, before-last, next-new}
 use Rattle.schedule_play.proofs.SlotMoves.{SlotMove, Kept, Touched, Lost, moved}
 use Rattle.schedule_play.proofs.SlotMoves as moves
@@ -57,6 +57,7 @@ use Rattle.schedule_play.proofs.CoveredPutsSlots.{Turn, Same, Bare, Taken, Marke
 use Rattle.schedule_play.proofs.ContentStates.{table, IsShownOf, AreShownIn}
 use Rattle.schedule_play.proofs.ContentFacts.{table-unit, table-parity, cells-same}
 use Rattle.schedule_play.proofs.ShownTrees.{ClaimsParityFirst}
+use Rattle.schedule_play.proofs.AccessCovers.{done-put}
 
 -- Replies that refuse show no cell
 refused-none : (r : Reply) → is_refused r ≡ true → (grant_of r ≡ None) × (held_of r ≡ None)
@@ -111,27 +112,8 @@ does-miss bay ask slot floor what reply left (Frees own) e = absurd (cc)
 does-miss bay ask slot floor what reply left (Leaves free reader found) e = absurd (cc)
 
 -- A put that is done leaves no note
-done-written : (what : Request) (reply : Reply) → is_some (write_of what reply) ≡ true → reply ≡ Done
-done-written (Put row id k cell) Done e = refl
-done-written (Put row id k cell) (Granted c read_no write_no last life seized) e = absurd (cc)
-done-written (Put row id k cell) (Busy holder) e = absurd (cc)
-done-written (Put row id k cell) (Late above) e = absurd (cc)
-done-written (Put row id k cell) (Young note) e = absurd (cc)
-done-written (Put row id k cell) (Missing floor) e = absurd (cc)
-done-written (Put row id k cell) (Held c) e = absurd (cc)
-done-written (Put row id k cell) (NoNote life) e = absurd (cc)
-done-written (Put row id k cell) Fault e = absurd (cc)
-done-written (Put row id k cell) Emptied e = absurd (cc)
-done-written (Put row id k cell) Fitted e = absurd (cc)
-done-written (Share row id want) reply e = absurd (cc)
-done-written (Claim row id how mask want) reply e = absurd (cc)
-done-written (Confirm row id want) reply e = absurd (cc)
-done-written (Release row id k) reply e = absurd (cc)
-done-written Lose reply e = absurd (cc)
-done-written Fit reply e = absurd (cc)
-
 put-frees : (bay : Bay) (ask : Ask) (slot : Slot) (what : Request) (reply : Reply) (left : Slot) → Does bay ask slot what reply left → is_some (write_of what reply) ≡ true → left.note ≡ None
-put-frees bay ask slot what reply left (Refuses r refused missing) put = absurd (let bad : false ≡ true = ap is_refused (sym (done-written what reply put)) ∙ refused in cc)
+put-frees bay ask slot what reply left (Refuses r refused missing) put = absurd (let bad : false ≡ true = ap is_refused (sym (done-put what reply put).5) ∙ refused in cc)
 put-frees bay ask slot what reply left (Closes there blank) put = refl
 put-frees bay ask slot what reply left (Grants claims) put = absurd (cc)
 put-frees bay ask slot what reply left (Shows shares) put = absurd (cc)
@@ -261,12 +243,11 @@ module _ (script : Script) (is : IsScript script) where
     pub putting : (id k : Number) (cell : Cell) → call.bay ≡ bay_of script.n row unit → call.ask.what ≡ Put row id k cell → IsDone call → Putting id
     putting id k cell place what done =
         let a : Asker script is earlier call = asker script is earlier call along.0 along.1 row (ap (λ (w : Request). row_of w) what) in
-        let named : Some id ≡ Some a.hand.hand.id = ap (λ (w : Request). id_of w) (sym what) ∙ asked-id script is earlier call.ask.host a.steps a.hand call a.asked in
         record {
           steps = a.steps;
           before = a.hand;
           asked = a.asked;
-          same = (cc);
+          same = (id-is-own script is earlier call.ask.host a.steps a.hand call a.asked id (ap (λ (w : Request). id_of w) what));
           putter = owned.putter script is earlier call along row unit below inside id k cell place what done a.steps a.hand a.asked;
           confirmed = owned.confirmed script is earlier call along row unit below inside id k cell place what done a.steps a.hand a.asked;
           noted = owned.noted script is earlier call along row unit below inside id k cell place what done;

@@ -3,6 +3,7 @@ use Rattle.std.proofs.Common.{◌≡◌, inl, inr, ◌∙◌, ℕ, zero, suc, �
 use Rattle.std.specs.List.{AllByRecursion, range_with_len}
 use Rattle.std.proofs.lemmas.Bool.{eq-eqb}
 use Rattle.std.proofs.lemmas.Bool.Decides.{nat_tests}
+use Rattle.std.proofs.lemmas.Bool.{and_parts}
 use Rattle.raid_base.specs.declared.numbers.RowNo.{RowNo}
 use Rattle.raid_base.specs.declared.cells.Cell.{Cell}
 use Rattle.raid_base.specs.declared.cells.Content.{Content}
@@ -22,16 +23,12 @@ pub both-true : (a b : Bool) → a ≡ true → b ≡ true → (a && b) ≡ true
 both-true true b p q = q
 both-true false b p q = absurd (cc)
 
-pub both-so : (a b : Bool) → (a && b) ≡ true → (a ≡ true) × (b ≡ true)
-both-so true b h = (refl, h)
-both-so false b h = absurd (cc)
-
 -- the same unit of the same row
 pub of-itself : (row : RowNo) (unit : ℕ) (c : Commit) → c.row ≡ row → c.unit ≡ unit → is_of row unit c ≡ true
 of-itself row unit c at same = both-true (c.row.0 == row.0) (c.unit == unit) (eq-eqb c.row.0 row.0 (ap (λ (r : RowNo). r.0) at)) (eq-eqb c.unit unit same)
 
 pub of-unit : (row : RowNo) (unit : ℕ) (c : Commit) → is_of row unit c ≡ true → c.unit ≡ unit
-of-unit row unit c h = let same : (c.unit == unit) ≡ true = (both-so (c.row.0 == row.0) (c.unit == unit) h).1 in grind (arith, nat_tests)
+of-unit row unit c h = let same : (c.unit == unit) ≡ true = (and_parts (c.row.0 == row.0) (c.unit == unit) h).1 in grind (arith, nat_tests)
 
 -- Commits of one row, where each unit takes the content that f gives it, and is such
 module _ (row : RowNo) (f : ℕ → Content) (R : ℕ → Type 0) where

@@ -27,7 +27,6 @@ use Rattle.schedule_play.specs.RowStates.{slot_at, cell_at}
 use Rattle.schedule_play.specs.Hands.{HasHand, calls_at}
 use Rattle.schedule_play.specs.Laws.{content_at}
 use Rattle.schedule_play.specs.Contents.{is_parity_put, base_at, cell_with, cells_with, HoldsContents}
-use Rattle.schedule_play.proofs.AccessIds.{starts-first}
 use Rattle.schedule_play.proofs.ContentChanges.{all-blocks}
 use Rattle.schedule_play.proofs.ContentFacts.{cells-same, cells-data, sound-parity}
 use Rattle.schedule_play.proofs.ContentParityPuts.{ParityGood, parity-mended, parity-recovered}
@@ -40,6 +39,7 @@ use Rattle.schedule_play.proofs.ContentWriteParity.{OwnedBlocks, parity-written}
 use Rattle.schedule_play.proofs.ContentsCovered.{IsOwnCommit, quiet-content}
 use Rattle.schedule_play.proofs.HolderNotesCalls.{none-first}
 use Rattle.schedule_play.proofs.RowOwnersHands.{Asker, asker}
+use Rattle.schedule_play.proofs.BayRows.{starts-first}
 
 module _ (script : Script) (is : IsScript script) (earlier : List Call) (call : Call) (along : IsHistory script (call ∷ earlier)) (hold : AllHold script earlier) (owned : OwnedBlocks script earlier) (hands : AreHandsShown script earlier)
     (row : RowNo) (below : row.0 < script.rows) where
@@ -173,7 +173,7 @@ holds-first script is row below = record {
 }
   where
     starts : (at : BayNo) → cell_at script [] row at ≡ Some zero_cell
-    starts at = ap (λ (s : Slot). s.cell) (starts-first script is at row below)
+    starts at = ap (λ (s : Slot). s.cell) (starts-first script at row below)
 
 pub owned-first : (script : Script) → OwnedBlocks script []
 owned-first script id row below = first-blocks script.n

@@ -32,19 +32,17 @@ use Rattle.schedule_play.specs.RowStates.{slot_at, cell_at}
 use Rattle.schedule_play.specs.Leftovers.{IsSeizure}
 use Rattle.schedule_play.specs.Hands.{HasHand, calls_at}
 use Rattle.schedule_play.specs.Holding.{HasNote, CameFrom, GivesNothing, IsRelease}
-use Rattle.schedule_play.proofs.HandMoves.{may-next, asked-id}
+use Rattle.schedule_play.proofs.HandMoves.{may-next, id-is-own}
 use Rattle.schedule_play.proofs.MissingHosts.{IsGone, Ready, SafeWork, Safe}
 use Rattle.schedule_play.proofs.MissingBays.{Here, operator-safe}
 use Rattle.schedule_play.proofs.OwnedPuts.{all-in}
-use Rattle.schedule_play.proofs.RowOwnersHands.{kind_of}
 use Rattle.schedule_play.proofs.RowOwnersSlots.{origins}
 use Rattle.schedule_play.proofs.RowOwnersCalls.{has-noted, taking-frees}
 use Rattle.schedule_play.proofs.RowOwnersTasks.{seizes, rebuild-asks}
 use Rattle.schedule_play.proofs.RowOwnersTrees.{MendAsks}
 use Rattle.schedule_play.proofs.ContentSlots.{noted-at}
-
-same-some : {X : Type 0} (x y : X) → Some x ≡ Some y → x ≡ y
-same-some x y e = cc
+use Rattle.schedule_play.proofs.SameNumbers.{same-some}
+use Rattle.schedule_play.proofs.HandClaims.{kind_of}
 
 came-by : (o : Option Note) (id : Number) (note : Note) → o ≡ Some note → note.origin ≡ id → CameFrom id o
 came-by o id note is same = subst (λ (x : Option Note). CameFrom id x) (sym is) same
@@ -61,12 +59,11 @@ module _ (script : Script) (is : IsScript script) (earlier : List Call) (call : 
   abbrev Calls : List Call
   Calls = calls_at script earlier call.ask.host
 
-  -- it puts with its own id
-  pub own-id : id ≡ h.hand.id
-  own-id = same-some id h.hand.id (sym (ap (λ (w : Request). id_of w) what) ∙ asked-id script is earlier call.ask.host steps h call asked)
-
+  -- it finds its own note
   pub own-noted : HasNote h.hand.id (slot_at script earlier at row).note
-  own-noted = subst (λ (x : Number). HasNote x (slot_at script earlier at row).note) own-id (noted-at script is earlier call along.1 at row below id k cell place what done)
+  own-noted =
+      subst (λ (x : Number). HasNote x (slot_at script earlier at row).note) (id-is-own script is earlier call.ask.host steps h call asked id (ap (λ (w : Request). id_of w) what))
+      (noted-at script is earlier call along.1 at row below id k cell place what done)
 
   -- where it seizes nothing, the note that it found came from it
   pub own-origin : (kind_of h.hand.task ≡ Seize → ⊥) → CameFrom h.hand.id (slot_at script earlier at row).note

@@ -2,6 +2,7 @@
 use Rattle.std.proofs.Common.{◌≡◌, refl, sym, ap, ◌∙◌, ℕ, ◌<◌, ◌==◌, true, false, is_some, List, ◌∷◌, Option, Some, None, arith}
 use Rattle.std.proofs.lemmas.Bool.{eq-eqb}
 use Rattle.std.proofs.lemmas.Bool.Decides.{nat_tests}
+use Rattle.std.proofs.lemmas.Bool.{and_parts}
 use Rattle.raid_base.specs.declared.numbers.BayNo.{BayNo}
 use Rattle.raid_base.specs.declared.numbers.RowNo.{RowNo}
 use Rattle.raid_base.specs.declared.numbers.Number.{Number}
@@ -28,7 +29,7 @@ use Rattle.schedule_play.proofs.SlotDoes.{Does, Refuses, Closes, Grants, Shows, 
 use Rattle.schedule_play.proofs.RowOwnersSlots.{does-at}
 use Rattle.schedule_play.proofs.RowOwnersCalls.{noted-by, noted-has}
 use Rattle.schedule_play.proofs.OwnedPuts.{put-noted}
-use Rattle.schedule_play.proofs.ContentChanges.{both-true, both-so}
+use Rattle.schedule_play.proofs.ContentChanges.{both-true}
 
 -- what a call does to a cell
 pub data CellTurn (old : Option Cell) (at : BayNo) (row : RowNo) (call : Call) (new : Option Cell) : Type 0 where
@@ -116,10 +117,10 @@ pub parity-put : (n : ℕ) (row : RowNo) (call : Call) → is_parity_put n row c
 parity-put n row call h = by call.ask.what call.answer.reply refl refl sent.1 row_is
   where
     sent : (is_at (parity_bay n row) row call ≡ true) × (is_some (write_of call.ask.what call.answer.reply) ≡ true)
-    sent = both-so (is_at (parity_bay n row) row call) (is_some (write_of call.ask.what call.answer.reply)) h
+    sent = and_parts (is_at (parity_bay n row) row call) (is_some (write_of call.ask.what call.answer.reply)) h
 
     at_both : ((call.bay.0 == (parity_bay n row).0) ≡ true) × (is_row row (row_of call.ask.what) ≡ true)
-    at_both = both-so (call.bay.0 == (parity_bay n row).0) (is_row row (row_of call.ask.what)) sent.0
+    at_both = and_parts (call.bay.0 == (parity_bay n row).0) (is_row row (row_of call.ask.what)) sent.0
 
     row_is : is_row row (row_of call.ask.what) ≡ true
     row_is = at_both.1

@@ -23,7 +23,7 @@ use Rattle.attempts.specs.Puts.{block_at}
 use Rattle.attempts.specs.Sound.{Cells, IsThis, IfPut, cell_on, IsSoundRow}
 use Rattle.script_text.specs.Script.{Script}
 use Rattle.script_text.specs.Ranges.{IsScript}
-use Rattle.host_engine.specs.Calls.{row_of, IsDone}
+use Rattle.host_engine.specs.Calls.{row_of, IsDone, id_of}
 use Rattle.host_engine.specs.History.{progress_at, IsHistory}
 use Rattle.schedule_play.specs.RowStates.{slot_at, cell_at}
 use Rattle.schedule_play.specs.Hands.{HasHand, calls_at, IsPutter}
@@ -35,15 +35,17 @@ use Rattle.schedule_play.proofs.ContentBlocks.{block-long}
 use Rattle.schedule_play.proofs.ContentChanges.{of-itself, one-block}
 use Rattle.schedule_play.proofs.ContentFacts.{table-unit, table-sound}
 use Rattle.schedule_play.proofs.ContentPuts.{AccessOf, commits-are, may-put, put-settles, put-commits, mend-puts, put-mended}
-use Rattle.schedule_play.proofs.ContentPutters.{own-id, mends-row, parity-there}
+use Rattle.schedule_play.proofs.ContentPutters.{mends-row, parity-there}
 use Rattle.schedule_play.proofs.ContentShows.{AreShown, all-of-row}
 use Rattle.schedule_play.proofs.ContentSlots.{put-filled}
 use Rattle.schedule_play.proofs.ContentStates.{table, IsRebuild, MendKeeps, AreHandsShown, AllHold}
 use Rattle.schedule_play.proofs.ContentTrees.{MayPut, Writes, Rebuilds, Recovers}
 use Rattle.schedule_play.proofs.CoveredPutsHands.{units-aside}
 use Rattle.schedule_play.proofs.OwnedPuts.{putter, puts_are_of_owners}
-use Rattle.schedule_play.proofs.RowOwnersHands.{kind_of, Asker, asker}
+use Rattle.schedule_play.proofs.RowOwnersHands.{Asker, asker}
 use Rattle.schedule_play.proofs.ShownHands.{mend-calls}
+use Rattle.schedule_play.proofs.HandMoves.{id-is-own}
+use Rattle.schedule_play.proofs.HandClaims.{kind_of}
 
 -- a unit has its cell, of 64 bytes
 pub record Good (script : Script) (history : List Call) (row : RowNo) (unit : ℕ) : Type 0 where
@@ -141,7 +143,7 @@ module _ (script : Script) (is : IsScript script) (earlier : List Call) (call : 
           came there (inl none) = absurd (there none)
           came there (inr from) =
               subst (λ (x : Number). CameFrom x (slot_at script earlier (parity_bay script.n row) row).note)
-              (own-id script is earlier call along row below (bay_of script.n row unit) id k cell place what done steps h asked) from
+              (id-is-own script is earlier call.ask.host steps h call asked id (ap (λ (w : Request). id_of w) what)) from
 
       by-task : MayPut h.hand.task → Good script (call ∷ earlier) row unit
       by-task (Writes object first from count writes) = by-write object first from count writes

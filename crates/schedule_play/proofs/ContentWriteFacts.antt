@@ -3,7 +3,7 @@
 use Rattle.std.proofs.Common.{◌≡◌, ◌⊎◌, inl, inr, refl, sym, ap, subst, ◌∙◌, ℕ, ◌+◌, ◌<◌, ◌≤◌, ◌==◌, ◌&&◌, Bool, true, false, if◌then◌else◌, List, [], ◌∷◌, Option, Some, None, is_some, arith}
 use Rattle.std.proofs.lemmas.Bool.{eq-eqb}
 use Rattle.std.proofs.lemmas.Bool.Decides.{nat_tests}
-use Rattle.std.proofs.lemmas.Nat.{mod_below}
+use Rattle.std.proofs.lemmas.Bool.{and_parts}
 use Rattle.raid_base.specs.declared.numbers.BayNo.{BayNo}
 use Rattle.raid_base.specs.declared.numbers.HostNo.{HostNo}
 use Rattle.raid_base.specs.declared.numbers.RowNo.{RowNo}
@@ -13,7 +13,7 @@ use Rattle.raid_base.specs.declared.messages.How.TheVariants.{Plain, Seize, Mend
 use Rattle.raid_base.specs.declared.messages.Note.{Note}
 use Rattle.raid_base.specs.declared.messages.Ask.{Ask}
 use Rattle.raid_base.specs.declared.messages.Reply.{Reply}
-use Rattle.raid_base.specs.declared.messages.Reply.TheVariants.{Granted, Busy, Late, Young, Missing, Held, NoNote, Done, Fault, Emptied, Fitted}
+use Rattle.raid_base.specs.declared.messages.Reply.TheVariants.{Done}
 use Rattle.raid_base.specs.declared.messages.Request.{Request}
 use Rattle.raid_base.specs.declared.messages.Request.TheVariants.{Share, Claim, Confirm, Put, Release, Lose, Fit}
 use Rattle.raid_base.specs.declared.messages.Call.{Call}
@@ -22,13 +22,14 @@ use Rattle.raid_base.specs.declared.jobs.Task.{Task}
 use Rattle.raid_base.specs.declared.jobs.Task.TheVariants as tasks
 use Rattle.raid_base.specs.Replies.{is_fault}
 use Rattle.raid_base.specs.Steps.{Steps, next_errand}
-use Rattle.stripe_layout.specs.Placement.{parity_at, parity_bay, bay_of}
+use Rattle.stripe_layout.specs.Placement.{parity_bay, bay_of}
 use Rattle.stripe_layout.proofs.LayoutLemmas.{parity_in, unit_apart}
 use Rattle.slot_rules.specs.Slots.{Slot, Bay}
 use Rattle.slot_rules.specs.Laws.{is_refused, claimed_note}
 use Rattle.attempts.specs.Taking.{Finish}
-use Rattle.attempts.specs.Phases.{after_asking}
+use Rattle.attempts.specs.Phases.{after_asking, Past}
 use Rattle.attempts.proofs.OnceClaims.{claims_are_of_their_kind}
+use Rattle.attempts.proofs.RoomLemmas.{bay-below}
 use Rattle.script_text.specs.Script.{Script}
 use Rattle.script_text.specs.Ranges.{IsScript}
 use Rattle.host_engine.specs.Calls.{Happened, row_of, id_of, is_row, is_at, write_of, IsPut, IsDone}
@@ -40,7 +41,6 @@ use Rattle.schedule_play.specs.Laws.{content_at}
 use Rattle.schedule_play.specs.Hands.{HasHand, calls_at}
 use Rattle.schedule_play.specs.Holding.{HasNote, CameFrom, Owns}
 use Rattle.schedule_play.specs.Contents.{is_parity_put, base_at, IsPending}
-use Rattle.schedule_play.proofs.AccessIds.{same-bay}
 use Rattle.schedule_play.proofs.AwakeLemmas.{IsAwake, history-awake}
 use Rattle.schedule_play.proofs.BlankNotes.{blank_notes_mend}
 use Rattle.schedule_play.proofs.SlotMoves.{SlotMove, Kept, Touched, Lost, outcome_at, moved}
@@ -48,7 +48,7 @@ use Rattle.schedule_play.proofs.SlotMoves as moves
 use Rattle.schedule_play.proofs.SlotDoes.{Does, Refuses, Closes, Grants, Shows, Holds, Puts, Frees, Leaves, slot-does}
 use Rattle.schedule_play.proofs.HolderNotesSlots.{Claimed}
 use Rattle.schedule_play.proofs.RowOwnersSlots.{origins}
-use Rattle.schedule_play.proofs.RowOwnersHands.{kind_of, happened-own}
+use Rattle.schedule_play.proofs.RowOwnersHands.{happened-own}
 use Rattle.schedule_play.proofs.RowOwnersTasks.{seizes, mends}
 use Rattle.schedule_play.proofs.RowOwnersCalls.{some-of, has-noted}
 use Rattle.schedule_play.proofs.OwnedPuts as owned
@@ -57,11 +57,10 @@ use Rattle.schedule_play.proofs.CoveredPutsSlots.{Turn, Same, Bare, Taken, Marke
 use Rattle.schedule_play.specs.Leftovers.{IsSeizure}
 use Rattle.schedule_play.proofs.ContentStates.{IsWriteTask, is_from, owned_at}
 use Rattle.schedule_play.proofs.ContentsCovered.{IsOwnCommit, quiet-content, contents_are_covered}
-
--- Small facts
-came-some : (id : Number) (o : Option Note) → CameFrom id o → (note : Note) × (o ≡ Some note) × (note.origin ≡ id)
-came-some id None h = absurd h
-came-some id (Some note) h = (note, refl, h)
+use Rattle.schedule_play.proofs.SameNumbers.{same-bay}
+use Rattle.schedule_play.proofs.CoveredPuts.{came-some}
+use Rattle.schedule_play.proofs.AccessCovers.{done-put}
+use Rattle.schedule_play.proofs.HandClaims.{kind_of}
 
 pub one-origin : (x y : Number) (o : Option Note) → CameFrom x o → CameFrom y o → x ≡ y
 one-origin x y None a b = absurd a
@@ -75,31 +74,7 @@ pub from-said : (id : Number) (o : Option Note) → is_from id o ≡ true → Ca
 from-said id None e = absurd (cc)
 from-said id (Some note) e = let same : note.origin.0 ≡ id.0 = grind (arith, nat_tests) in ap (λ (k : ℕ). let x : Number = record { 0 = k } in x) same
 
-both : (a b : Bool) → (a && b) ≡ true → (a ≡ true) × (b ≡ true)
-both true b h = (refl, h)
-both false b h = absurd (cc)
-
--- a put that was done
-pub done-put : (what : Request) (reply : Reply) → is_some (write_of what reply) ≡ true → (row : RowNo) × (id : Number) × (n : Number) × (cell : Cell) × (what ≡ Put row id n cell) × (reply ≡ Done)
-done-put (Put row id n cell) Done e = (row, id, n, cell, refl, refl)
-done-put (Put row id n cell) (Granted found read_no write_no last life seized) e = absurd (cc)
-done-put (Put row id n cell) (Busy holder) e = absurd (cc)
-done-put (Put row id n cell) (Late above) e = absurd (cc)
-done-put (Put row id n cell) (Young note) e = absurd (cc)
-done-put (Put row id n cell) (Missing floor) e = absurd (cc)
-done-put (Put row id n cell) (Held found) e = absurd (cc)
-done-put (Put row id n cell) (NoNote life) e = absurd (cc)
-done-put (Put row id n cell) Fault e = absurd (cc)
-done-put (Put row id n cell) Emptied e = absurd (cc)
-done-put (Put row id n cell) Fitted e = absurd (cc)
-done-put (Share row id want) reply e = absurd (cc)
-done-put (Claim row id how mask want) reply e = absurd (cc)
-done-put (Confirm row id want) reply e = absurd (cc)
-done-put (Release row id n) reply e = absurd (cc)
-done-put Lose reply e = absurd (cc)
-done-put Fit reply e = absurd (cc)
-
--- leaves no note
+-- a put that was done leaves no note
 put-clears : (bay : Bay) (ask : Ask) (slot : Slot) (row : RowNo) (id n : Number) (cell : Cell) (what : Request) (reply : Reply) (left : Slot) → Does bay ask slot what reply left → what ≡ Put row id n cell → reply ≡ Done →
     left.note ≡ None
 put-clears bay ask slot row id n cell what reply left (Refuses r refused missing) is done = absurd (let bad : false ≡ true = ap is_refused (sym done) ∙ refused in cc)
@@ -120,21 +95,22 @@ writes-plain (tasks.Rebuild bay) w = absurd w
 writes-plain (tasks.Lose bay) w = absurd w
 writes-plain (tasks.Fit bay) w = absurd w
 
+-- what is past the first phase stays past it
+pub late-stays : (past : Past) (bay : BayNo) (what : Request) (reply : Reply) → 1 ≤ past.phase → 1 ≤ (after_asking past bay what reply).phase
+late-stays past bay (Share r i want) reply late = late
+late-stays past bay (Claim r i how mask want) reply late = late
+late-stays past bay (Confirm r i want) reply late = omega arith
+late-stays past bay (Put r i n cell) reply late = omega arith
+late-stays past bay (Release r i n) reply late = omega arith
+late-stays past bay Lose reply late = late
+late-stays past bay Fit reply late = late
+
 -- a put is none of the first phase
 pub put-late : (at : BayNo) (row : RowNo) (id : Number) (calls : List Call) → Happened (IsPut at row id) calls → 1 ≤ (past_of calls).phase
 put-late at row id [] h = absurd h
 put-late at row id (call ∷ calls) (inl (place, n, cell, what)) =
     subst (λ (w : Request). 1 ≤ (after_asking (past_of calls) call.bay w call.answer.reply).phase) (sym what) (omega arith)
-put-late at row id (call ∷ calls) (inr h) = by call.ask.what (put-late at row id calls h)
-  where
-    by : (what : Request) → 1 ≤ (past_of calls).phase → 1 ≤ (after_asking (past_of calls) call.bay what call.answer.reply).phase
-    by (Share r i want) before = before
-    by (Claim r i how mask want) before = before
-    by (Confirm r i want) before = omega arith
-    by (Put r i n cell) before = omega arith
-    by (Release r i n) before = omega arith
-    by Lose before = before
-    by Fit before = before
+put-late at row id (call ∷ calls) (inr h) = late-stays (past_of calls) call.bay call.ask.what call.answer.reply (put-late at row id calls h)
 
 happened-map : {P Q : Call → Type 0} → ((c : Call) → P c → Q c) → (calls : List Call) → Happened P calls → Happened Q calls
 happened-map f [] h = absurd h
@@ -158,9 +134,6 @@ module _ (script : Script) (is : IsScript script) (row : RowNo) (below : row.0 <
 
   pub units-aside : (unit : ℕ) → unit + 1 < script.n → bay_of script.n row unit ≡ P → ⊥
   units-aside unit inside same = let least = is.devices_least in absurd (unit_apart script.n row unit least (omega (arith, inside)) same)
-
-  unit-within : (unit : ℕ) → (bay_of script.n row unit).0 < script.n
-  unit-within unit = let least = is.devices_least in mod_below (parity_at script.n row + 1 + unit) script.n (omega (arith, least))
 
   -- what an attempt owned last
   pub owned-base : (id : Number) (history : List Call) → From id history → (unit : ℕ) → owned_at script id history row unit ≡ base_at script history row unit
@@ -194,8 +167,8 @@ module _ (script : Script) (is : IsScript script) (row : RowNo) (below : row.0 <
 
     parity-put : is_parity_put script.n row call ≡ true → (ParityAt (call ∷ earlier)).note ≡ None
     parity-put e =
-        let parts = both (is_at (P) row call) (is_some (write_of call.ask.what call.answer.reply)) e in
-        let there = both (call.bay.0 == (P).0) (is_row row (row_of call.ask.what)) parts.0 in
+        let parts = and_parts (is_at (P) row call) (is_some (write_of call.ask.what call.answer.reply)) e in
+        let there = and_parts (call.bay.0 == (P).0) (is_row row (row_of call.ask.what)) parts.0 in
         let put = done-put call.ask.what call.answer.reply parts.1 in
         let said : (put.0.0 == row.0) ≡ true = ap (λ (w : Request). is_row row (row_of w)) (sym put.4) ∙ there.1 in
         let same : put.0 ≡ row = (let n : put.0.0 ≡ row.0 = grind (arith, nat_tests) in ap (λ (k : ℕ). let x : RowNo = record { 0 = k } in x) n) in
@@ -321,4 +294,4 @@ module _ (script : Script) (is : IsScript script) (row : RowNo) (below : row.0 <
         by (Marked place id n cell what done free last) =
             let same : id ≡ h.hand.id = owner id (puts_are_of_owners script earlier call is along row unit id below inside (place, n, cell, what) done) in
             let note = has-noted (slot_at script earlier (U) row).note id (owned.noted script is earlier call along row unit below inside id n cell place what done) in
-            absurd (not-blank earlier along.0 host steps h writes (U) (unit-within unit) note.0 note.1 (note.2 ∙ same) none)
+            absurd (not-blank earlier along.0 host steps h writes (U) (bay-below script.n row unit (let least = is.devices_least in omega (arith, least))) note.0 note.1 (note.2 ∙ same) none)

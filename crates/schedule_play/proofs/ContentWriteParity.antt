@@ -16,16 +16,14 @@ use Rattle.raid_base.specs.declared.messages.How.{How}
 use Rattle.raid_base.specs.declared.messages.How.TheVariants.{Mend, Seize}
 use Rattle.raid_base.specs.declared.messages.Note.{Note}
 use Rattle.raid_base.specs.declared.messages.Call.{Call}
-use Rattle.raid_base.specs.declared.messages.Reply.{Reply}
-use Rattle.raid_base.specs.declared.messages.Reply.TheVariants.{Granted, Busy, Late, Young, Missing, Held, NoNote, Done, Fault, Emptied, Fitted}
 use Rattle.raid_base.specs.declared.messages.Request.{Request}
 use Rattle.raid_base.specs.declared.messages.Request.TheVariants.{Share, Claim, Confirm, Put, Release, Lose, Fit}
 use Rattle.raid_base.specs.declared.jobs.RowPart.{RowPart}
 use Rattle.raid_base.specs.declared.jobs.Task.{Task}
 use Rattle.raid_base.specs.declared.jobs.Task.TheVariants as tasks
 use Rattle.raid_base.specs.Cells.{plain_cell, has_unit}
-use Rattle.raid_base.specs.Fits.{fits, fits_confirm}
-use Rattle.raid_base.specs.Replies.{grant_of, held_of}
+use Rattle.raid_base.specs.Fits.{fits}
+use Rattle.raid_base.specs.Replies.{grant_of}
 use Rattle.raid_base.specs.Steps.{Commit, Steps, settled, commits_next, next_errand, errand_of}
 use Rattle.raid_xor.specs.Laws.{AreBlocks}
 use Rattle.stripe_layout.specs.Placement.{parity_bay, bay_of, units, units_in}
@@ -34,7 +32,7 @@ use Rattle.degraded_plans.specs.Laws.{changed}
 use Rattle.attempts.specs.Taking.{Access, Finish}
 use Rattle.attempts.specs.Phases.{IsIn, HasRow, RowsDiffer}
 use Rattle.attempts.specs.Puts.{block_at}
-use Rattle.attempts.specs.Sound.{Cells, HeldShows, ReplyShows, IfPut, cell_on, AreSoundRows, part_changes, written_parity, written_cells}
+use Rattle.attempts.specs.Sound.{Cells, ReplyShows, IfPut, cell_on, AreSoundRows, part_changes, written_parity, written_cells}
 use Rattle.attempts.proofs.OnceClaims.{claims_are_of_their_kind}
 use Rattle.attempts.proofs.RoomLemmas.{parity-below}
 use Rattle.attempts.proofs.SoundLemmas.{parity-on}
@@ -57,7 +55,7 @@ use Rattle.schedule_play.proofs.ContentParityPuts.{ParityGood, units-good}
 use Rattle.schedule_play.proofs.ContentPuts.{AccessOf, commits-are, put-settles, put-written}
 use Rattle.schedule_play.proofs.ContentPutters.{own-noted, own-origin, all-confirmed}
 use Rattle.schedule_play.proofs.ContentShows.{AreShown, shown-one, each-shown, led-fits}
-use Rattle.schedule_play.proofs.ContentStates.{table, IsShownOf, IsWriteTask, is_from, owned_at, IsWriteHeld, AreHandsShown, AllHold}
+use Rattle.schedule_play.proofs.ContentStates.{table, IsShownOf, IsWriteTask, is_from, owned_at, IsWriteHeld, AreHandsShown, AllHold, IsUnitPut}
 use Rattle.schedule_play.proofs.ContentUnitPuts.{Good}
 use Rattle.schedule_play.proofs.ContentsCovered.{contents_are_covered}
 use Rattle.schedule_play.proofs.CoveredPutsSlots.{IsMaskClaim, origin-claimed}
@@ -65,12 +63,14 @@ use Rattle.schedule_play.proofs.CoveredPutsHands.{in-happened}
 use Rattle.schedule_play.proofs.HolderNotesHands.{claim-in}
 use Rattle.schedule_play.proofs.OwnedPuts.{all-in}
 use Rattle.schedule_play.proofs.RowOwnersCalls.{has-noted, came-noted}
-use Rattle.schedule_play.proofs.RowOwnersHands.{kind_of, happened-in, happened-own}
+use Rattle.schedule_play.proofs.RowOwnersHands.{happened-in, happened-own}
 use Rattle.schedule_play.proofs.RowOwnersTasks.{mends}
 use Rattle.schedule_play.proofs.ShownTrees.{ParityGranted, TakesSo}
 use Rattle.schedule_play.proofs.ShownHands.{calls-take}
 use Rattle.schedule_play.proofs.WriteMasks.{HasMask, has-row, one-part, AskedAfter, WriteAsks, hand-asked, parts_in}
-use Rattle.schedule_play.proofs.WritePuts.{AreSettled, WasGone, PutsUnit, PartOf}
+use Rattle.schedule_play.proofs.WritePuts.{AreSettled, WasGone, PartOf}
+use Rattle.schedule_play.proofs.HandClaims.{kind_of}
+use Rattle.schedule_play.proofs.ContentWrites.{unwanted-held}
 
 -- the contents that an attempt owned are of blocks
 abbrev pub OwnedBlocks : Script → List Call → Type 0
@@ -103,21 +103,6 @@ written-at a (first ∷ parts) differ part (inr i) row at p cells = by (first.ro
         let same : row ≡ first.row = ap (λ (k : ℕ). let r : RowNo = record { 0 = k } in r) number in
         absurd (differ.0 (subst (λ (r : RowNo). HasRow r parts) (at ∙ same) (has-row part parts i)))
     by false e = ap (λ (b : Bool). if b then parity_of (changed cells (part_changes a first)) else written_parity a parts row p cells) e
-
--- a confirm that wants no cell shows none
-held-none : (cell : Cell) (reply : Reply) → fits_confirm false reply ≡ true → HeldShows cell (held_of reply)
-held-none cell (Held None) fit = tt
-held-none cell (Held (Some other)) fit = absurd (cc)
-held-none cell (Granted c x y l i s) fit = tt
-held-none cell (Busy holder) fit = tt
-held-none cell (Late above) fit = tt
-held-none cell (Young note) fit = tt
-held-none cell (Missing floor) fit = tt
-held-none cell (NoNote life) fit = tt
-held-none cell Done fit = tt
-held-none cell Fault fit = tt
-held-none cell Emptied fit = tt
-held-none cell Fitted fit = tt
 
 module _ (script : Script) (is : IsScript script) (earlier : List Call) (call : Call) (along : IsHistory script (call ∷ earlier)) (hold : AllHold script earlier) (owned : OwnedBlocks script earlier) (hands : AreHandsShown script earlier)
     (row : RowNo) (below : row.0 < script.rows) (place : call.bay ≡ parity_bay script.n row) (id k : Number) (cell : Cell) (what : call.ask.what ≡ Put row id k cell) (done : IsDone call)
@@ -279,7 +264,7 @@ module _ (script : Script) (is : IsScript script) (earlier : List Call) (call : 
       confirmed r by_id true e = of-row c i r (ap (λ (w : Request). row_of w) e) (granted-row r (takes.confirms r by_id e))
       confirmed r by_id false e =
           subst (λ (w : Request). ReplyShows script.n (Table) c.bay w c.answer.reply) (sym e)
-          (held-none (cell_on script.n (Table) c.bay r) c.answer.reply (subst (λ (w : Request). fits w c.answer.reply ≡ true) e fit))
+          (unwanted-held (cell_on script.n (Table) c.bay r) c.answer.reply (subst (λ (w : Request). fits w c.answer.reply ≡ true) e fit))
 
       by : (w : Request) → c.ask.what ≡ w → IsShownOf script.n (Table) c
       by (Share r by_id want) e = of-row c i r (ap (λ (w : Request). row_of w) e) (granted-row r (takes.shares r by_id want e))
@@ -302,11 +287,11 @@ module _ (script : Script) (is : IsScript script) (earlier : List Call) (call : 
   wanted-so unit inside has = by (last-of row (λ u. Bytes (Block u)) IsGone unit (commits_of script earlier call) (content_at script earlier row unit) committed) (settles.2.wanted unit inside has)
     where
       by : LastOf row (λ u. Bytes (Block u)) IsGone unit (commits_of script earlier call) (content_at script earlier row unit) →
-          Happened (λ c. PutsUnit script.n (Part).row unit (plain_cell (Block unit)) c × IsDone c) Calls ⊎ IsIn (record { row = (Part).row; unit = unit; content = Bytes (Block unit) }) (commits_next steps) →
+          Happened (λ c. IsUnitPut script.n (Part).row unit (plain_cell (Block unit)) c × IsDone c) Calls ⊎ IsIn (record { row = (Part).row; unit = unit; content = Bytes (Block unit) }) (commits_next steps) →
           content_at script (call ∷ earlier) row unit ≡ Bytes (Block unit)
       by (Takes now gone) x = now
       by (Stays none same) (inl put) =
-          same ∙ (held unit inside).put (plain_cell (Block unit)) (subst (λ (r : RowNo). Happened (λ c. PutsUnit script.n r unit (plain_cell (Block unit)) c × IsDone c) Calls) part-row put)
+          same ∙ (held unit inside).put (plain_cell (Block unit)) (subst (λ (r : RowNo). Happened (λ c. IsUnitPut script.n r unit (plain_cell (Block unit)) c × IsDone c) Calls) part-row put)
       by (Stays none same) (inr i) =
           absurd (none (subst (λ (cs : List Commit). IsIn (record { row = row; unit = unit; content = Bytes (Block unit) }) cs) (sym (commits-are script is earlier call steps h asked done))
           (subst (λ (r : RowNo). IsIn (record { row = r; unit = unit; content = Bytes (Block unit) }) (commits_next steps)) part-row i)))

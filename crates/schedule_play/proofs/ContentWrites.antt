@@ -50,12 +50,11 @@ use Rattle.schedule_play.proofs.HandMoves.{may-next, Stays, Goes, Came, Stayed, 
 use Rattle.schedule_play.proofs.HandClaims.{IsTake, next-new}
 use Rattle.schedule_play.proofs.SlotMoves.{SlotMove, Kept, Touched, Lost, outcome_at, moved}
 use Rattle.schedule_play.proofs.SlotMoves as moves
-use Rattle.schedule_play.proofs.SlotDoes.{Does, Refuses, Closes, Grants, Shows, Holds, Puts, Frees, Leaves, slot-does}
+use Rattle.schedule_play.proofs.SlotDoes.{Does, Refuses, Closes, Grants, Shows, Holds, Puts, Frees, Leaves, slot-does, refused-none}
 use Rattle.schedule_play.proofs.AnsweredFreeNotes.{held-now}
-use Rattle.schedule_play.proofs.HolderNotesSlots.{refused-none}
-use Rattle.schedule_play.proofs.HolderNotesHands.{Confirms, Before, Now, confirmed-by}
+use Rattle.schedule_play.proofs.HolderNotesHands.{Confirms, Before, Now, confirmed-by, confirmed-late}
 use Rattle.schedule_play.proofs.RowOwnersSlots.{does-at}
-use Rattle.schedule_play.proofs.RowOwnersHands.{confirmed-late, other-id}
+use Rattle.schedule_play.proofs.RowOwnersHands.{other-id}
 use Rattle.schedule_play.proofs.RowOwnersCalls.{confirm-leaves}
 use Rattle.schedule_play.proofs.CoveredPutsHands.{in-happened}
 use Rattle.schedule_play.proofs.ContentStates.{table, IsShownOf, AreShownIn, IsWriteTask, is_from, owned_at, IsWriteShown, AreHandsShown, AllHold}
@@ -151,7 +150,7 @@ unwanted-grant c how Fault fit = tt
 unwanted-grant c how Emptied fit = tt
 unwanted-grant c how Fitted fit = tt
 
-unwanted-held : (c : Cell) (reply : Reply) → fits_confirm false reply ≡ true → HeldShows c (held_of reply)
+pub unwanted-held : (c : Cell) (reply : Reply) → fits_confirm false reply ≡ true → HeldShows c (held_of reply)
 unwanted-held c (Held None) fit = tt
 unwanted-held c (Held (Some cell)) fit = absurd (cc)
 unwanted-held c (Granted cell read_no write_no last life seized) fit = tt
@@ -437,7 +436,7 @@ module _ (script : Script) (is : IsScript script) (row : RowNo) (below : row.0 <
       later-shown confirmed of = by call.ask.what refl
         where
           late : 1 ≤ (past_of (Calls)).phase
-          late = confirmed-late row (Calls) confirmed
+          late = confirmed-late (Calls) row confirmed
 
           taken : (past).past.phase ≤ 0 → IsShownOf script.n (T) call
           taken low = let less : (past_of (Calls)).phase ≤ 0 = early low in let more : 1 ≤ (past_of (Calls)).phase = late in absurd (omega (arith, less, more))

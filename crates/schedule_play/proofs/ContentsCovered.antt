@@ -38,13 +38,14 @@ use Rattle.schedule_play.specs.Commits.{IsOwnPut, IsParityPut, IsGiven}
 use Rattle.schedule_play.specs.Contents.{is_parity_put, base_at, IsPending, ContentsAreCovered}
 use Rattle.schedule_play.proofs.HandClaims.{kind_of, made-kind}
 use Rattle.schedule_play.proofs.NoteUnits.{put-at, units_are_of_writes}
-use Rattle.schedule_play.proofs.RowOwnersHands.{Asker, asker, happened-in, happened-own, next-id}
+use Rattle.schedule_play.proofs.RowOwnersHands.{Asker, asker, happened-in, happened-own}
 use Rattle.schedule_play.proofs.OwnedPuts as owned
 use Rattle.schedule_play.proofs.OwnedCommits.{commits_are_of_owners}
 use Rattle.schedule_play.proofs.MendCommits.{rebuild-commits}
 use Rattle.schedule_play.proofs.CoveredPutsSlots.{Turn, Same, Bare, Taken, Marked, Freed, turned, IsGrantedClaim, origin-granted}
 use Rattle.schedule_play.proofs.CoveredPutsHands.{Writes, in-happened, no-unit}
-use Rattle.schedule_play.proofs.CoveredPuts.{came-some, same-ids, Covered, happened-later, covered}
+use Rattle.schedule_play.proofs.CoveredPuts.{came-some, Covered, happened-later, covered}
+use Rattle.schedule_play.proofs.HandMoves.{id-is-own}
 
 -- Commits. The last of some that is of the unit
 record LastOf (P : Commit → Type 0) (row : RowNo) (unit : ℕ) (commits : List Commit) (content : Content) : Type 0 where
@@ -180,7 +181,7 @@ module _ (script : Script) (is : IsScript script) (row : RowNo) (below : row.0 <
     asking = asker script is earlier call along.0 along.1 row (ap (λ (w : Request). row_of w) g.put)
 
     own-id : g.id ≡ (asking).hand.hand.id
-    own-id = same-ids g.id (asking).hand.hand.id call.ask.what (ap (λ (w : Request). id_of w) g.put) (next-id script is earlier Host (asking).steps (asking).hand (errand_of call) (asking).asked)
+    own-id = id-is-own script is earlier Host (asking).steps (asking).hand call (asking).asked g.id (ap (λ (w : Request). id_of w) g.put)
 
     -- its claim of the parity is a write's
     plain-claim : (mask : ℕ) (c : Call) → IsGrantedClaim P row g.id mask c → Happened (λ x. (x ≡ c) × IsGrantedClaim P row g.id mask x) (calls_at script earlier Host) → IsWriteClaim script.n row g.id mask c

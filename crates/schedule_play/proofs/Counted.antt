@@ -36,14 +36,13 @@ use Rattle.schedule_play.proofs.HandClaims.{kind_of, made-kind}
 use Rattle.schedule_play.proofs.HolderNotesCalls.{in-history}
 use Rattle.schedule_play.proofs.OwnedPuts.{all-in, putter, puts_are_of_owners}
 use Rattle.schedule_play.proofs.RowOwnersTrees.{IsTaking, IsGranted, HasClaimed, AreAnswered}
-use Rattle.schedule_play.proofs.RowOwnersHands as owners
 use Rattle.schedule_play.proofs.RowOwnersHands.{Asker, asker, happened-in, happened-own}
 use Rattle.schedule_play.proofs.RowOwnersCalls.{unit-in}
 use Rattle.schedule_play.proofs.RowOwnersTasks.{recovery-asks, rebuild-asks}
 use Rattle.schedule_play.proofs.CoveredPutsSlots.{IsGrantedClaim, origin-granted}
 use Rattle.schedule_play.proofs.CoveredPutsHands.{in-happened}
 use Rattle.schedule_play.proofs.CoveredPuts.{came-some, Covered, covered}
-use Rattle.schedule_play.proofs.ContentPutters.{own-id, own-noted, own-origin, mends-keep}
+use Rattle.schedule_play.proofs.ContentPutters.{own-noted, own-origin, mends-keep}
 use Rattle.schedule_play.proofs.ContentPuts.{commits-are, may-put, mend-puts}
 use Rattle.schedule_play.proofs.ContentRows.{Stands, stands}
 use Rattle.schedule_play.proofs.ContentSlots.{CellTurn, Same, Bare, Filled, cell-turned, ParityPut, parity-put, puts-parity}
@@ -52,11 +51,13 @@ use Rattle.schedule_play.proofs.ContentWriteFacts.{one-origin}
 use Rattle.schedule_play.proofs.ContentWriteParity as parity_writes
 use Rattle.schedule_play.proofs.RisingClaims.{WriteMove, Quiet, Wrote, write-moved, Covering}
 use Rattle.schedule_play.proofs.RisingCommits.{TakesOne, taken-moved}
-use Rattle.schedule_play.proofs.RisingPuts.{calls-named, number-above}
+use Rattle.schedule_play.proofs.RisingPuts.{calls-named, number-above, id-least}
 use Rattle.schedule_play.proofs.RisingShown.{UnitShown, unit-covered}
-use Rattle.schedule_play.proofs.Rising.{wrote-below, covered-below, facts, above-own}
-use Rattle.schedule_play.proofs.PutNumbers.{puts-alike, id-least}
+use Rattle.schedule_play.proofs.Rising.{wrote-below, covered-below, facts}
+use Rattle.schedule_play.proofs.PutNumbers.{puts-alike}
 use Rattle.schedule_play.proofs.CountedShown.{answered-covered, granted-covered}
+use Rattle.schedule_play.proofs.HandMoves.{id-is-own}
+use Rattle.schedule_play.proofs.Risen.{done-rises}
 
 -- Lists of contents
 abbrev All : (Taken → Type 0) → List Taken → Type 0
@@ -149,7 +150,7 @@ module _ (script : Script) (is : IsScript script) (row : RowNo) (below : row.0 <
       IsLow ts = AllByRecursion (λ (t : Taken). t.number.0 ≤ n.0) ts
 
       above : AllBelow n (writes (P) row earlier)
-      above = subst (λ (b : BayNo). AllBelow n (writes b row earlier)) place (above-own script is row below unit inside earlier call along id n cell what done)
+      above = subst (λ (b : BayNo). AllBelow n (writes b row earlier)) place (done-rises script is earlier call along row id n cell what done).0
 
       stood : Stands script earlier
       stood = stands script is earlier along.0
@@ -214,8 +215,8 @@ module _ (script : Script) (is : IsScript script) (row : RowNo) (below : row.0 <
         not-plain : kind_of a.hand.hand.task ≡ Plain → ⊥
         not-plain plain = let bad : kind_of (tasks.Rebuild bay) ≡ Plain = subst (λ (t : Task). kind_of t ≡ Plain) mends plain in absurd (cc)
 
-        not-seizing : owners.kind_of a.hand.hand.task ≡ Seize → ⊥
-        not-seizing seizes = let bad : owners.kind_of (tasks.Rebuild bay) ≡ Seize = subst (λ (t : Task). owners.kind_of t ≡ Seize) mends seizes in absurd (cc)
+        not-seizing : kind_of a.hand.hand.task ≡ Seize → ⊥
+        not-seizing seizes = let bad : kind_of (tasks.Rebuild bay) ≡ Seize = subst (λ (t : Task). kind_of t ≡ Seize) mends seizes in absurd (cc)
 
         claimed : HasClaimed script.n row [] Calls
         claimed =
@@ -284,7 +285,7 @@ module _ (script : Script) (is : IsScript script) (row : RowNo) (below : row.0 <
     -- of the unit, that gives it a content: by a write
     module _ (place : call.bay ≡ U) (t : TakesOne script earlier call row unit) (from : CameFrom id (slot_at script earlier (P) row).note) where
       own : id ≡ a.hand.hand.id
-      own = own-id script is earlier call along row below (U) id n cell place what done a.steps a.hand a.asked
+      own = id-is-own script is earlier call.ask.host a.steps a.hand call a.asked id (ap (λ (w : Request). id_of w) what)
 
       plain : kind_of a.hand.hand.task ≡ Plain
       plain = by (may-put script is earlier call a.steps a.hand a.asked row id n cell what)

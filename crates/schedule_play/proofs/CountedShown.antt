@@ -2,7 +2,6 @@
 -- a recovery was answered is put by nobody, nor is one that was granted to a rebuild of a parity without a cell.
 use Rattle.std.proofs.Common.{◌≡◌, ◌⊎◌, inl, inr, refl, sym, ap, subst, ◌∙◌, ℕ, ◌+◌, ◌<◌, ◌==◌, false, List, [], ◌∷◌, Option, Some, None, IsSome, is_some, arith}
 use Rattle.std.specs.List.{AllByRecursion}
-use Rattle.std.proofs.lemmas.Nat.{mod_below}
 use Rattle.raid_base.specs.declared.numbers.BayNo.{BayNo}
 use Rattle.raid_base.specs.declared.numbers.HostNo.{HostNo}
 use Rattle.raid_base.specs.declared.numbers.RowNo.{RowNo}
@@ -17,13 +16,14 @@ use Rattle.raid_base.specs.declared.jobs.Task.{Task}
 use Rattle.raid_base.specs.declared.jobs.Task.TheVariants as tasks
 use Rattle.raid_base.specs.Replies.{grant_of}
 use Rattle.raid_base.specs.Steps.{Steps, next_errand, errand_of}
-use Rattle.stripe_layout.specs.Placement.{parity_at, parity_bay, bay_of}
+use Rattle.stripe_layout.specs.Placement.{parity_bay, bay_of}
 use Rattle.stripe_layout.proofs.LayoutLemmas.{parity_in}
 use Rattle.slot_rules.specs.Slots.{Slot}
 use Rattle.attempts.specs.Taking.{Finish}
 use Rattle.attempts.specs.Phases as phases
 use Rattle.attempts.specs.Phases.{IsIn}
 use Rattle.attempts.proofs.OnceClaims.{claims_are_of_their_kind}
+use Rattle.attempts.proofs.RoomLemmas.{bay-below}
 use Rattle.script_text.specs.Script.{Script}
 use Rattle.script_text.specs.Ranges.{IsScript, IsTask}
 use Rattle.host_engine.specs.Calls.{id_of, IsClaim, IsDone}
@@ -33,7 +33,6 @@ use Rattle.schedule_play.specs.RowStates.{slot_at, cell_at}
 use Rattle.schedule_play.specs.Laws.{writes}
 use Rattle.schedule_play.specs.Hands.{HasHand, calls_at, IsRecoveryOf, IsAnswered}
 use Rattle.schedule_play.specs.Holding.{HasNote, IsRelease, GivesNothing, IsOfOpenRecovery}
-use Rattle.schedule_play.proofs.AccessIds.{starts-first}
 use Rattle.schedule_play.proofs.AnsweredFreeNotes.{Takes, note-came}
 use Rattle.schedule_play.proofs.HandMoves.{Stays, Goes, Came, Stayed, Begun, Went, came}
 use Rattle.schedule_play.proofs.HoldingLaws.{answered_are_free, holders_keep_notes}
@@ -47,6 +46,7 @@ use Rattle.schedule_play.proofs.ContentCalls.{unit-aside, Putting, putting}
 use Rattle.schedule_play.proofs.ContentMends.{blank-before}
 use Rattle.schedule_play.proofs.RisingClaims.{WriteMove, Quiet, Wrote, write-moved, Covering, claim-covers}
 use Rattle.schedule_play.proofs.RisingShown.{none-claimed}
+use Rattle.schedule_play.proofs.BayRows.{starts-first}
 
 -- a request that takes gives nothing back
 taking-keeps : (what : Request) → IsTaking what → IsRelease what → ⊥
@@ -65,9 +65,6 @@ module _ (script : Script) (is : IsScript script) (row : RowNo) (below : row.0 <
   abbrev U : BayNo
   U = bay_of script.n row unit
 
-  unit-within : (U).0 < script.n
-  unit-within = let least = is.devices_least in mod_below (parity_at script.n row + 1 + unit) script.n (omega (arith, least))
-
   abbrev Unput : Call → Type 0
   Unput call = (id n : Number) (cell : Cell) → call.bay ≡ U → call.ask.what ≡ Put row id n cell → IsDone call → ⊥
 
@@ -83,12 +80,12 @@ module _ (script : Script) (is : IsScript script) (row : RowNo) (below : row.0 <
   covers-now : (earlier : List Call) (call : Call) → IsHistory script (call ∷ earlier) → (c : Call) → call ≡ c → IsAnswered (U) row c → Covering script.mode c (writes (U) row (call ∷ earlier))
   covers-now earlier call along c same answered =
       let now : IsAnswered (U) row call = subst (λ (x : Call). IsAnswered (U) row x) (sym same) answered in
-      subst (λ (x : Call). Covering script.mode x (writes (U) row (call ∷ earlier))) same (claim-covers script is earlier call along (U) row unit-within below now.0 now.1)
+      subst (λ (x : Call). Covering script.mode x (writes (U) row (call ∷ earlier))) same (claim-covers script is earlier call along (U) row (bay-below script.n row unit (let least = is.devices_least in omega (arith, least))) below now.0 now.1)
 
   -- A recovery
   pub answered-covered : (history : List Call) → IsHistory script history → (host : HostNo) (steps : Steps Finish) (h : HasHand script history host steps) → IsRecoveryOf row h.hand.task →
       HasNote h.hand.id (slot_at script history (P) row).note → (c : Call) → IsIn c (calls_at script history host) → IsAnswered (U) row c → Covering script.mode c (writes (U) row history)
-  answered-covered [] along host steps h recovers noted c i answered = absurd (subst (λ (s : Slot). HasNote h.hand.id s.note) (starts-first script is (P) row below) noted)
+  answered-covered [] along host steps h recovers noted c i answered = absurd (subst (λ (s : Slot). HasNote h.hand.id s.note) (starts-first script (P) row below) noted)
   answered-covered (call ∷ earlier) along host steps h recovers noted c i answered =
       by (λ s b r n j. answered-covered earlier along.0 host s b r n c j answered) (came script is earlier call along.0 along.1 host steps h)
     where
@@ -173,7 +170,7 @@ module _ (script : Script) (is : IsScript script) (row : RowNo) (below : row.0 <
         by None e =
             absurd
             (unit-aside script is row unit inside
-            (one_bay_is_missing script earlier is along.0 (U) (P) unit-within (parity_in script.n row is.devices_least) (row, below, ap (λ (o : Option Cell). is_some o) e)
+            (one_bay_is_missing script earlier is along.0 (U) (P) (bay-below script.n row unit (let least = is.devices_least in omega (arith, least))) (parity_in script.n row is.devices_least) (row, below, ap (λ (o : Option Cell). is_some o) e)
             (row, below, ap (λ (o : Option Cell). is_some o) m.bare)))
 
     others-unput : Unput call
@@ -196,7 +193,7 @@ module _ (script : Script) (is : IsScript script) (row : RowNo) (below : row.0 <
 
   pub granted-covered : (history : List Call) → IsHistory script history → (host : HostNo) (steps : Steps Finish) (h : HasHand script history host steps) → MendsBare history host steps h →
       (c : Call) → IsIn c (calls_at script history host) → IsClaim (U) row c → IsSome (grant_of c.answer.reply) → Covering script.mode c (writes (U) row history)
-  granted-covered [] along host steps h m c i claim some = absurd (subst (λ (s : Slot). HasNote h.hand.id s.note) (starts-first script is (P) row below) m.noted)
+  granted-covered [] along host steps h m c i claim some = absurd (subst (λ (s : Slot). HasNote h.hand.id s.note) (starts-first script (P) row below) m.noted)
   granted-covered (call ∷ earlier) along host steps h m c i claim some =
       by (λ s b bm j. granted-covered earlier along.0 host s b bm c j claim some) (came script is earlier call along.0 along.1 host steps h)
     where

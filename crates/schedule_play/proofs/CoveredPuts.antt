@@ -35,33 +35,28 @@ use Rattle.schedule_play.specs.RowStates.{slot_at, cell_at}
 use Rattle.schedule_play.specs.Hands.{HasHand, calls_at, IsPutter, IsRecoveryOf, IsAnswered}
 use Rattle.schedule_play.specs.Holding.{HasNote, CameFrom, Owns}
 use Rattle.schedule_play.specs.Laws.{IsOrigin, IsWrite, IsPutSince, PutsAreCovered}
-use Rattle.schedule_play.proofs.AccessIds.{bay-rows}
-use Rattle.schedule_play.proofs.HandMoves.{Stays, Came, Stayed, Begun, Went, came}
-use Rattle.schedule_play.proofs.HandClaims.{kind_of, made-kind, next-kind, next-untaken, claimed-taken}
+use Rattle.schedule_play.proofs.HandMoves.{Stays, Came, Stayed, Begun, Went, came, id-is-own}
+use Rattle.schedule_play.proofs.HandClaims.{kind_of, made-kind, next-kind, next-untaken, claimed-taken, recovers-seize, seize-recovers}
 use Rattle.schedule_play.proofs.AnsweredFreeNotes.{Takes, note-came}
 use Rattle.schedule_play.proofs.AnsweredFreeHands.{parity-claimed}
 use Rattle.schedule_play.proofs.HolderNotesSlots.{Claimed, claimed-by, grant_at}
 use Rattle.schedule_play.proofs.HoldingLaws.{answered_are_free}
-use Rattle.schedule_play.proofs.RowOwnersHands.{Asker, asker, happened-in, next-id, other-id}
+use Rattle.schedule_play.proofs.RowOwnersHands.{Asker, asker, happened-in, other-id}
 use Rattle.schedule_play.proofs.RowOwnersCalls.{noted-by}
 use Rattle.schedule_play.proofs.OwnedPuts as owned
 use Rattle.schedule_play.proofs.OwnedPuts.{puts_are_of_owners}
 use Rattle.schedule_play.proofs.CoveredPutsSlots.{Turn, Same, Bare, Taken, Marked, Freed, turned, marked, IsMaskClaim, origin-claimed, Found, Anew, Handed, Opened, own-opened}
-use Rattle.schedule_play.proofs.CoveredPutsHands.{seizing, recovers-seize, recovers-alone, Writes, in-happened, units-aside, write-task, put-masked, own-keeps, same-row, recovery-keeps}
+use Rattle.schedule_play.proofs.CoveredPutsHands.{recovers-alone, Writes, in-happened, units-aside, write-task, put-masked, own-keeps, same-row, recovery-keeps}
+use Rattle.schedule_play.proofs.SameNumbers.{same-some}
+use Rattle.schedule_play.proofs.BayRows.{bay-rows}
 
 none-some : {X : Type 0} (o : Option X) → o ≡ None → IsSome o → ⊥
 none-some None e h = absurd (cc)
 none-some (Some x) e h = absurd (cc)
 
-same-some : {X : Type 0} (x y : X) → Some x ≡ Some y → x ≡ y
-same-some x y e = cc
-
 pub came-some : (id : Number) (o : Option Note) → CameFrom id o → (note : Note) × (o ≡ Some note) × (note.origin ≡ id)
 came-some id None h = absurd h
 came-some id (Some note) h = (note, refl, h)
-
-pub same-ids : (x y : Number) (what : Request) → id_of what ≡ Some x → id_of what ≡ Some y → x ≡ y
-same-ids x y what a b = same-some x y (sym a ∙ b)
 
 -- what has happened has happened in a longer history
 pub happened-later : (Q : Call → Type 0) (later earlier : List Call) (call : Call) → Happened Q (call ∷ earlier) → Happened Q (later ++ call ∷ earlier)
@@ -113,7 +108,7 @@ module _ (script : Script) (is : IsScript script) (row : RowNo) (below : row.0 <
     asking = asker script is earlier call along.0 along.1 row (ap (λ (w : Request). row_of w) what)
 
     own-id : id ≡ (asking).hand.hand.id
-    own-id = same-ids id (asking).hand.hand.id call.ask.what (ap (λ (w : Request). id_of w) what) (next-id script is earlier Host (asking).steps (asking).hand (errand_of call) (asking).asked)
+    own-id = id-is-own script is earlier Host (asking).steps (asking).hand call (asking).asked id (ap (λ (w : Request). id_of w) what)
 
     puts-units : (host : HostNo) → call.ask.host ≡ host → (steps : Steps Finish) (h : HasHand script earlier host steps) → next_errand steps ≡ Some (errand_of call) → IsPutter h.hand.task
     puts-units host same =
@@ -285,7 +280,7 @@ module _ (script : Script) (is : IsScript script) (row : RowNo) (below : row.0 <
           let own = noted-by (ParityAt earlier).note rid mine in
           let one : note ≡ own.0 = same-some note own.0 (sym before.noted ∙ own.1) in
           let same : rid ≡ (gives).hand.hand.id =
-          same-ids rid (gives).hand.hand.id call.ask.what (ap (λ (w : Request). id_of w) what) (next-id script is earlier call.ask.host (gives).steps (gives).hand (errand_of call) (gives).asked) in
+          id-is-own script is earlier call.ask.host (gives).steps (gives).hand call (gives).asked rid (ap (λ (w : Request). id_of w) what) in
           ap (λ (x : Note). x.id) one ∙ own.2 ∙ same
 
       opened-keeps : (c : Call) → IsIn c (calls_at script earlier call.ask.host) → (o : Opened P row note c) → Found o.how o.grant.seized note → ⊥
@@ -293,7 +288,7 @@ module _ (script : Script) (is : IsScript script) (row : RowNo) (below : row.0 <
           own-keeps script is row unit inside id earlier along.0 call.ask.host (gives).steps (gives).hand call (gives).asked write (sym before.origin ∙ own ∙ named) put rid k what place
       opened-keeps c i o (Handed seizes was noted origin mask) =
           let kind : o.how ≡ kind_of (gives).hand.hand.task = (made-kind script is earlier call.ask.host (gives).steps (gives).hand c i row note.id o.how o.mask o.want o.what).0 in
-          let task = seizing (gives).hand.hand.task (sym seizes ∙ kind) in
+          let task = seize-recovers (gives).hand.hand.task (sym seizes ∙ kind) in
           recovery-keeps script is row unit inside id earlier along.0 call.ask.host (gives).steps (gives).hand call (gives).asked rid k what place was
           (in-happened (λ x. IsClaim P row x × Seizes was x) c (calls_at script earlier call.ask.host) i ((o.place, note.id, o.how, o.mask, o.want, o.what), (o.grant, o.granted, noted)))
           (ap (λ (m : ℕ). has_unit m unit) mask ∙ before.masked)
@@ -338,7 +333,7 @@ module _ (script : Script) (is : IsScript script) (row : RowNo) (below : row.0 <
 -- a row that is none has no cell
 no-cell : (script : Script) → IsScript script → (history : List Call) (at : BayNo) (row : RowNo) → script.rows ≤ row.0 → cell_at script history row at ≡ None
 no-cell script is history at row past =
-    let rows : length (bay_at script at history).slots ≡ script.rows = bay-rows script is at history in
+    let rows : length (bay_at script at history).slots ≡ script.rows = bay-rows script at history in
     ap (λ (s : Slot). s.cell) (get_or_past (bay_at script at history).slots row.0 (bare_slot (number 0)) (omega (arith, rows, past)))
 
 none-is : (o : Option Cell) → o ≡ None → IsNone o

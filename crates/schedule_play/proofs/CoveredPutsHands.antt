@@ -7,7 +7,7 @@ use Rattle.raid_base.specs.declared.numbers.RowNo.{RowNo}
 use Rattle.raid_base.specs.declared.numbers.Number.{Number}
 use Rattle.raid_base.specs.declared.names.Name.{Name}
 use Rattle.raid_base.specs.declared.cells.Cell.{Cell}
-use Rattle.raid_base.specs.declared.messages.How.TheVariants.{Plain, Seize}
+use Rattle.raid_base.specs.declared.messages.How.TheVariants.{Plain}
 use Rattle.raid_base.specs.declared.messages.Note.{Note}
 use Rattle.raid_base.specs.declared.messages.Grant.{Grant}
 use Rattle.raid_base.specs.declared.messages.Request.{Request}
@@ -44,22 +44,6 @@ use Rattle.schedule_play.proofs.RecoveryFinds.{HasSeized, FoundSound, FoundWhole
 use Rattle.schedule_play.proofs.CoveredPutsSlots.{IsMaskClaim}
 
 -- Tasks by their kinds
-pub seizing : (task : Task) → Seize ≡ kind_of task → (row : RowNo) × (task ≡ tasks.Recover row)
-seizing (tasks.Recover row) e = (row, refl)
-seizing (tasks.Read object first count) e = absurd (cc)
-seizing (tasks.Write object first from count) e = absurd (cc)
-seizing (tasks.Rebuild bay) e = absurd (cc)
-seizing (tasks.Lose bay) e = absurd (cc)
-seizing (tasks.Fit bay) e = absurd (cc)
-
-pub recovers-seize : (row : RowNo) (task : Task) → IsRecoveryOf row task → kind_of task ≡ Seize
-recovers-seize row (tasks.Recover at) r = refl
-recovers-seize row (tasks.Read object first count) r = absurd r
-recovers-seize row (tasks.Write object first from count) r = absurd r
-recovers-seize row (tasks.Rebuild bay) r = absurd r
-recovers-seize row (tasks.Lose bay) r = absurd r
-recovers-seize row (tasks.Fit bay) r = absurd r
-
 pub recovers-alone : (row : RowNo) (task : Task) → IsRecoveryOf row task → IsPutter task → ⊥
 recovers-alone row (tasks.Recover at) r p = p
 recovers-alone row (tasks.Read object first count) r p = r

@@ -31,12 +31,13 @@ use Rattle.host_engine.specs.History.{IsNext, IsHistory, bay_at}
 use Rattle.schedule_play.specs.RowStates.{slot_at}
 use Rattle.schedule_play.specs.Hands.{HasHand, calls_at}
 use Rattle.schedule_play.specs.Ids.{IsNoteClaim}
-use Rattle.schedule_play.proofs.AccessIds.{starts-first, ids_are_apart}
+use Rattle.schedule_play.proofs.AccessIds.{ids_are_apart}
 use Rattle.schedule_play.proofs.HandMoves.{Came, Stayed, Begun, Went, came}
 use Rattle.schedule_play.proofs.SlotMoves.{SlotMove, Kept, Touched, Lost, Fitted, outcome_at, moved}
 use Rattle.schedule_play.proofs.SlotDoes.{Does, Refuses, Closes, Grants, Shows, Holds, Puts, Frees, Leaves, slot-does}
-use Rattle.schedule_play.proofs.HolderNotesSlots.{Claimed, grant_at}
+use Rattle.schedule_play.proofs.HolderNotesSlots.{Claimed, grant_at, claimed-so}
 use Rattle.schedule_play.proofs.RowOwnersHands.{happened-own, other-id}
+use Rattle.schedule_play.proofs.BayRows.{starts-first}
 
 -- what a call does to a slot
 pub data Turn (old : Bay) (at : BayNo) (row : RowNo) (call : Call) (new : Bay) : Type 0 where
@@ -54,24 +55,7 @@ module _ (old : Bay) (at : BayNo) (row : RowNo) (call : Call) (new : Bay) where
   turn-by place empty life what reply left (Refuses r refused missing) e of answered now = Same (ap (λ (s : Slot). s.note) now) (ap (λ (s : Slot). s.cell) now) (ap (λ (s : Slot). s.last) now)
   turn-by place empty life what reply left (Closes there none) e of answered now = Bare (ap (λ (s : Slot). s.note) now) (ap (λ (s : Slot). s.cell) now ∙ none)
   turn-by place empty life what reply left (Grants {row = r} {id} {how} {mask} {want} claims) e of answered now =
-      let here : r ≡ row = cc in
-      Taken
-      (record {
-        place = place;
-        id = id;
-        how = how;
-        mask = mask;
-        want = want;
-        what = e ∙ ap (λ (x : RowNo). Claim x id how mask want) here;
-        grant = ap grant_of (answered ∙ claims.reply);
-        note = ap (λ (s : Slot). s.note) (now ∙ claims.left);
-        cell = ap (λ (s : Slot). s.cell) (now ∙ claims.left);
-        there = empty ∙ claims.there;
-        life = life;
-        found = claims.cell;
-        free = claims.free;
-      })
-      (ap (λ (s : Slot). s.last) (now ∙ claims.left))
+      Taken (claimed-so old at row call new place empty life r id how mask want reply left claims e (cc) answered now) (ap (λ (s : Slot). s.last) (now ∙ claims.left))
   turn-by place empty life what reply left (Shows shares) e of answered now =
       Same (ap (λ (s : Slot). s.note) now ∙ shares.note_kept) (ap (λ (s : Slot). s.cell) now ∙ shares.cell_kept) (ap (λ (s : Slot). s.last) now ∙ shares.last_kept)
   turn-by place empty life what reply left (Holds own) e of answered now = Same (ap (λ (s : Slot). s.note) now) (ap (λ (s : Slot). s.cell) now) (ap (λ (s : Slot). s.last) now)
@@ -175,7 +159,7 @@ module _ (script : Script) (is : IsScript script) (at : BayNo) (row : RowNo) (be
 
   -- a note has the origin and the mask of a claim that was granted
   pub origin-granted : (history : List Call) → IsHistory script history → (note : Note) → Noted history note → Happened (IsGrantedClaim at row note.origin note.mask) history
-  origin-granted [] along note noted = absurd (let bad : None ≡ Some note = ap (λ (s : Slot). s.note) (sym (starts-first script is at row below)) ∙ noted in cc)
+  origin-granted [] along note noted = absurd (let bad : None ≡ Some note = ap (λ (s : Slot). s.note) (sym (starts-first script at row below)) ∙ noted in cc)
   origin-granted (call ∷ earlier) along note noted = by (origin-granted earlier along.0) (note-made earlier call along.1 note noted)
     where
       made : ((n : Note) → Noted earlier n → Happened (IsGrantedClaim at row n.origin n.mask) earlier) → (c : Claimed (bay_at script at earlier) at row call (bay_at script at (call ∷ earlier))) → (o : Option Note) →

@@ -110,17 +110,17 @@ rank-same u v (w ∷ us) i j same = one (w == u) (w == v) refl refl (rank-same u
     one false false p q rest (inr i) (inr j) same = rest i j (omega arith)
 
 -- each unit was granted or is missing, and none is missing where none lacks
-pub given-or-missing : (us : List ℕ) (os : List (Option Grant)) → Filled (λ u o. Unit {0}) us os [] → (unit : ℕ) → IsIn unit us →
+pub given-or-missing : (P : ℕ → Option Grant → Type 0) (us : List ℕ) (os : List (Option Grant)) → Filled P us os [] → (unit : ℕ) → IsIn unit us →
     IsIn unit (granted_of (zip us os)) ⊎ IsIn unit (missing_units (zip us os))
-given-or-missing [] os f unit i = absurd i
-given-or-missing (u ∷ us) [] f unit i = absurd (cc)
-given-or-missing (u ∷ us) (None ∷ os) f unit (inl same) = inr (inl same)
-given-or-missing (u ∷ us) (None ∷ os) f unit (inr i) = elim (given-or-missing us os f.1 unit i) [
+given-or-missing P [] os f unit i = absurd i
+given-or-missing P (u ∷ us) [] f unit i = absurd (cc)
+given-or-missing P (u ∷ us) (None ∷ os) f unit (inl same) = inr (inl same)
+given-or-missing P (u ∷ us) (None ∷ os) f unit (inr i) = elim (given-or-missing P us os f.1 unit i) [
   | inl j ↦ inl j
   | inr j ↦ inr (inr j)
 ]
-given-or-missing (u ∷ us) (Some grant ∷ os) f unit (inl same) = inl (inl same)
-given-or-missing (u ∷ us) (Some grant ∷ os) f unit (inr i) = elim (given-or-missing us os f.1 unit i) [
+given-or-missing P (u ∷ us) (Some grant ∷ os) f unit (inl same) = inl (inl same)
+given-or-missing P (u ∷ us) (Some grant ∷ os) f unit (inr i) = elim (given-or-missing P us os f.1 unit i) [
   | inl j ↦ inl (inr j)
   | inr j ↦ inr j
 ]

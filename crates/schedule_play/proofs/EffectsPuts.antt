@@ -167,7 +167,7 @@ module _ (a : Access) (least : 3 ≤ a.n) (are : AreRowParts a.n a.parts) where
           ]
 
           by : (left : List ℕ) → puts.left ≡ left → IsSettled row.part puts
-          by [] e = inl (λ unit i. made e unit (given-or-missing (wanted_units a row) row.wanted own.1 unit i))
+          by [] e = inl (λ unit i. made e unit (given-or-missing (λ u o. Unit {0}) (wanted_units a row) row.wanted own.1 unit i))
           by (u ∷ us) e = inr (p.blamed u (subst (λ (vs : List ℕ). IsIn u vs) (sym e) (inl refl)))
 
       units-wanted : (puts : Puts) → AllByRecursion (IsWanted a row.part) puts.left → AllByRecursion (IsWanted a row.part) (parity_units a row puts)
@@ -197,7 +197,7 @@ module _ (a : Access) (least : 3 ≤ a.n) (are : AreRowParts a.n a.parts) where
 
           by : (part : RowPart) → ((row.part ≡ part) ⊎ IsIn part (parts_of later)) ⊎ IsSettled part puts → IsIn part (parts_of later) ⊎ IsSettled part (with_made puts (Blocks puts))
           by part (inl (inl same)) =
-              inr (inl (subst (λ (x : RowPart). IsMade a (puts.made ++ (Blocks puts)) x) same (λ unit i. made unit (given-or-missing (wanted_units a row) row.wanted own.1 unit i))))
+              inr (inl (subst (λ (x : RowPart). IsMade a (puts.made ++ (Blocks puts)) x) same (λ unit i. made unit (given-or-missing (λ u o. Unit {0}) (wanted_units a row) row.wanted own.1 unit i))))
           by part (inl (inr i)) = inl i
           by part (inr s) = inr (more-made part puts (Blocks puts) s)
 

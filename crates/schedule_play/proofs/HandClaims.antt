@@ -36,13 +36,13 @@ use Rattle.attempts.proofs.OnceWrites.{writes-once}
 use Rattle.attempts.proofs.OnceRepairs.{mends-once, recoveries-once}
 use Rattle.script_text.specs.Script.{Script, parts_of, blocks_of}
 use Rattle.script_text.specs.Ranges.{IsScript, IsTask}
-use Rattle.host_engine.specs.Calls.{Happened, row_of, id_of, IsShare, IsClaim, IsPut}
-use Rattle.host_engine.specs.Progress.{Work, Trying, Losing, Fitting, Over, Progress, access, attempt, no_steps, read_of, write_of, work_errand}
+use Rattle.host_engine.specs.Calls.{Happened, id_of, IsShare, IsClaim, IsPut}
+use Rattle.host_engine.specs.Progress.{Progress, access, attempt, no_steps, read_of, write_of}
 use Rattle.host_engine.specs.History.{progress_at, IsNext, IsHistory}
-use Rattle.host_engine.specs.Hands.{Led, InHand, HasWork, IsInHand, past_of, Phased}
-use Rattle.host_engine.proofs.Attempting.{hand-at, asked-errand}
+use Rattle.host_engine.specs.Hands.{Led, InHand, past_of, Phased}
+use Rattle.host_engine.proofs.Attempting.{asked-errand}
 use Rattle.host_engine.proofs.PhasedHands.{phased, found-parts, rows-differ}
-use Rattle.schedule_play.specs.Hands.{HasHand, calls_at}
+use Rattle.schedule_play.specs.Hands.{HasHand, calls_at, IsRecoveryOf}
 use Rattle.schedule_play.specs.Ids.{is_id, calls_with}
 use Rattle.schedule_play.proofs.AccessHosts.{this-id}
 use Rattle.schedule_play.proofs.AccessIds.{ids_are_apart}
@@ -53,6 +53,23 @@ abbrev pub kind_of : Task → How
 kind_of (tasks.Rebuild bay) = Mend
 kind_of (tasks.Recover row) = Seize
 kind_of _ = Plain
+
+-- a recovery alone seizes
+pub recovers-seize : (row : RowNo) (task : Task) → IsRecoveryOf row task → kind_of task ≡ Seize
+recovers-seize row (tasks.Recover at) r = refl
+recovers-seize row (tasks.Read object first count) r = absurd r
+recovers-seize row (tasks.Write object first from count) r = absurd r
+recovers-seize row (tasks.Rebuild bay) r = absurd r
+recovers-seize row (tasks.Lose bay) r = absurd r
+recovers-seize row (tasks.Fit bay) r = absurd r
+
+pub seize-recovers : (task : Task) → Seize ≡ kind_of task → (row : RowNo) × (task ≡ tasks.Recover row)
+seize-recovers (tasks.Read object first count) e = absurd (cc)
+seize-recovers (tasks.Write object first from count) e = absurd (cc)
+seize-recovers (tasks.Recover row) e = (row, refl)
+seize-recovers (tasks.Rebuild bay) e = absurd (cc)
+seize-recovers (tasks.Lose bay) e = absurd (cc)
+seize-recovers (tasks.Fit bay) e = absurd (cc)
 
 -- the slots that calls shared or claimed, the newest first
 abbrev pub taken_of : List Call → List Slot
@@ -344,34 +361,6 @@ request_of (Some errand) = errand.request
 
 -- The attempt that asked a call of a row
 module _ (script : Script) (is : IsScript script) (earlier : List Call) (call : Call) (along : IsHistory script earlier) (next : IsNext script earlier call) where
-  -- its hand before the call
-  pub record Asker : Type 0 where
-    pub steps : Steps Finish
-    pub before : HasHand script earlier call.ask.host steps
-    pub asked : next_errand steps ≡ Some (errand_of call)
-
-  pub asker : (row : RowNo) → row_of call.ask.what ≡ Some row → Asker
-  asker row of-row = by (progress_at script call.ask.host earlier).work refl (asked-errand script earlier call next) (hand-at script is call.ask.host earlier along)
-    where
-      p : Progress
-      p = progress_at script call.ask.host earlier
-
-      asked-what : (w : Work) (what : Request) → request_of (work_errand w) ≡ what → p.work ≡ w → work_errand p.work ≡ Some (errand_of call) → what ≡ call.ask.what
-      asked-what w what of was asked = sym of ∙ ap request_of (subst (λ (x : Work). work_errand x ≡ Some (errand_of call)) was asked)
-
-      by : (w : Work) → p.work ≡ w → work_errand p.work ≡ Some (errand_of call) → IsInHand script call.ask.host p → Asker
-      by (Trying steps) was asked hand =
-          record {
-            steps = steps;
-            before = record { work = was; hand = subst (λ (w : Work). HasWork script call.ask.host p.jobs p.row p.seen p.calls w) was hand };
-            asked = subst (λ (w : Work). work_errand w ≡ Some (errand_of call)) was asked;
-          }
-      by (Losing bay) was asked hand =
-          absurd (let lose : call.ask.what ≡ Lose = sym (asked-what (Losing bay) Lose refl was asked) in let bad : None ≡ Some row = sym (ap (λ (w : Request). row_of w) lose) ∙ of-row in cc)
-      by (Fitting bay) was asked hand =
-          absurd (let fit : call.ask.what ≡ Fit = sym (asked-what (Fitting bay) Fit refl was asked) in let bad : None ≡ Some row = sym (ap (λ (w : Request). row_of w) fit) ∙ of-row in cc)
-      by Over was asked hand = absurd (let bad : None ≡ Some (errand_of call) = subst (λ (w : Work). work_errand w ≡ Some (errand_of call)) was asked in cc)
-
   -- calls with its id are its own
   pub asker-calls : (P : Call → Type 0) (id : Number) → ((c : Call) → P c → id_of c.ask.what ≡ Some id) → id_of call.ask.what ≡ Some id → Happened P earlier →
       Happened P (calls_at script earlier call.ask.host)

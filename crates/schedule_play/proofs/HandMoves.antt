@@ -1,7 +1,6 @@
 -- What a call of a history does to the attempts in hand: those of other hosts stay, and that of its host is the one that
 -- asked it, or a new one.
-use Rattle.std.proofs.Common.{◌≡◌, ◌⊎◌, inl, inr, refl, sym, ap, subst, ◌∙◌, ℕ, ◌==◌, Bool, true, false, List, [], ◌∷◌, Some, arith}
-use Rattle.std.proofs.lemmas.Bool.Decides.{nat_tests}
+use Rattle.std.proofs.Common.{◌≡◌, ◌⊎◌, inl, inr, refl, sym, ap, subst, ◌∙◌, ℕ, ◌==◌, Bool, true, false, List, [], ◌∷◌, Some}
 use Rattle.raid_base.specs.declared.numbers.BayNo.{BayNo}
 use Rattle.raid_base.specs.declared.numbers.HostNo.{HostNo}
 use Rattle.raid_base.specs.declared.numbers.Number.{Number}
@@ -23,6 +22,7 @@ use Rattle.host_engine.proofs.Attempting.{hand-at, own-errand}
 use Rattle.host_engine.proofs.PhasedHands.{phased}
 use Rattle.host_engine.proofs.HandSteps.{GoesOn, takes-after}
 use Rattle.schedule_play.specs.Hands.{HasHand, calls_at}
+use Rattle.schedule_play.proofs.SameNumbers.{same-host, same-some}
 
 -- what is asked has the attempt's id
 pub may-id : (n : ℕ) (id : Number) (past : Past) (bay : BayNo) (what : Request) → MayAsk n id past bay what → id_of what ≡ Some id
@@ -39,19 +39,20 @@ may-next n id past (Asks first t c k) e h asked = let same : first ≡ e = cc in
 may-next n id past (Draws k) e h asked = absurd (cc)
 may-next n id past (Ends f) e h asked = absurd (cc)
 
-same-host : (a b : HostNo) → (a.0 == b.0) ≡ true → a ≡ b
-same-host a b e = let same : a.0 ≡ b.0 = grind (arith, nat_tests) in ap (λ (k : ℕ). record { 0 = k }) same
-
-same-some : {X : Type 0} (x y : X) → Some x ≡ Some y → x ≡ y
-same-some x y e = cc
-
 module _ (script : Script) (is : IsScript script) where
-  -- the id of what an attempt in hand asks
+  -- the id of what an attempt in hand asks is its own
+  pub next-id : (history : List Call) (host : HostNo) (steps : Steps Finish) (h : HasHand script history host steps) (e : Errand) → next_errand steps ≡ Some e → id_of e.request ≡ Some h.hand.id
+  next-id history host steps h e asked =
+      let f : Phased script.n h.hand.id (calls_at script history host) steps = phased script is host (progress_at script host history) steps h.hand in
+      may-id script.n h.hand.id f.past e.bay e.request (may-next script.n h.hand.id f.past steps e f.keeps asked)
+
   pub asked-id : (history : List Call) (host : HostNo) (steps : Steps Finish) (h : HasHand script history host steps) (call : Call) → next_errand steps ≡ Some (errand_of call) →
       id_of call.ask.what ≡ Some h.hand.id
-  asked-id history host steps h call asked =
-      let f : Phased script.n h.hand.id (calls_at script history host) steps = phased script is host (progress_at script host history) steps h.hand in
-      may-id script.n h.hand.id f.past call.bay call.ask.what (may-next script.n h.hand.id f.past steps (errand_of call) f.keeps asked)
+  asked-id history host steps h call asked = next-id history host steps h (errand_of call) asked
+
+  pub id-is-own : (history : List Call) (host : HostNo) (steps : Steps Finish) (h : HasHand script history host steps) (call : Call) → next_errand steps ≡ Some (errand_of call) →
+      (id : Number) → id_of call.ask.what ≡ Some id → id ≡ h.hand.id
+  id-is-own history host steps h call asked id named = same-some id h.hand.id (sym named ∙ asked-id history host steps h call asked)
 
   module _ (earlier : List Call) (call : Call) (along : IsHistory script earlier) (next : IsNext script earlier call) where
     abbrev Earlier : HostNo → Progress

@@ -3,7 +3,6 @@
 use Rattle.std.proofs.Common.{◌≡◌, ◌⊎◌, inl, inr, refl, sym, ap, subst, ◌∙◌, ℕ, ◌+◌, ◌-◌, ◌<◌, ◌==◌, Bool, true, false, List, [], ◌∷◌, Option, Some, None, IsSome, is_some, arith}
 use Rattle.std.specs.List.{AllByRecursion}
 use Rattle.std.proofs.lemmas.Bool.{eq-eqb}
-use Rattle.std.proofs.lemmas.Bool.Decides.{nat_tests}
 use Rattle.raid_base.specs.declared.numbers.BayNo.{BayNo}
 use Rattle.raid_base.specs.declared.numbers.HostNo.{HostNo}
 use Rattle.raid_base.specs.declared.numbers.RowNo.{RowNo}
@@ -44,16 +43,14 @@ use Rattle.schedule_play.specs.Hands.{HasHand, calls_at}
 use Rattle.schedule_play.specs.Ids.{calls_with}
 use Rattle.schedule_play.specs.Holding.{HasNote, BlankNotesMend, IsRelease, GivesNothing, origin_of, IsOfOpenRecovery, HoldersKeepNotes}
 use Rattle.schedule_play.proofs.HandMoves.{may-next, asked-id, Goes, Came, Stayed, Begun, Went, came}
-use Rattle.schedule_play.proofs.SlotDoes.{IsGone}
+use Rattle.schedule_play.proofs.SlotDoes.{IsGone, claimed-id}
 use Rattle.schedule_play.proofs.HolderNotesTrees.{MayFind, Finds}
 use Rattle.schedule_play.proofs.HolderNotesSlots.{IsGranted, grant_at, Claimed, Turned, Same, Taken, Filled, Freed, Closed, Cleared, Renewed, turned, IsMending, Found, claimed-by, found-cell, empty-bare, Confirmation, confirmation}
-use Rattle.schedule_play.proofs.HolderNotesHands.{put-more, granted-claimed, confirmed-late, Confirms, Before, Now, confirmed-by, claim-in, free_of, Finding, finds-next, finding-hand, claims-new, one-claim, claim-kind, mend-operator, parity-first, claim-row, FreeClaim, free-claim}
-use Rattle.schedule_play.proofs.HolderNotesCalls.{Among, none-first, Asker, asker, other-id, asker-calls, calls-mine, in-history, mine-among, mends-operator, seizes-recover}
-
--- the note of a claim
-claimed-id : (ask : Ask) (id : Number) (mask : ℕ) (o : Option Note) → (claimed_note ask id mask o).id ≡ id
-claimed-id ask id mask None = refl
-claimed-id ask id mask (Some note) = refl
+use Rattle.schedule_play.proofs.HolderNotesHands.{put-more, confirmed-late, Confirms, Before, Now, confirmed-by, claim-in, free_of, Finding, finds-next, finding-hand, claims-new, one-claim, claim-kind, mend-operator, parity-first, claim-row, FreeClaim, free-claim}
+use Rattle.schedule_play.proofs.HolderNotesCalls.{Among, none-first, Asker, asker, asker-calls, calls-mine, in-history, mine-among, mends-operator, seizes-recover}
+use Rattle.schedule_play.proofs.SameNumbers.{same-number}
+use Rattle.schedule_play.proofs.HandClaims.{granted-claimed}
+use Rattle.schedule_play.proofs.RowOwnersHands.{other-id}
 
 claimed-origin : (ask : Ask) (id : Number) (mask : ℕ) (o : Option Note) → (claimed_note ask id mask o).origin ≡ origin_of id o
 claimed-origin ask id mask None = refl
@@ -68,9 +65,6 @@ record Holder (id : Number) (o : Option Note) : Type 0 where
 holder : (id : Number) (o : Option Note) → HasNote id o → Holder id o
 holder id None h = absurd h
 holder id (Some note) h = record { note = note; stands = refl; named = h }
-
-same-number : (x y : Number) → (x.0 == y.0) ≡ true → x ≡ y
-same-number x y e = let same : x.0 ≡ y.0 = grind (arith, nat_tests) in ap (λ (k : ℕ). record { 0 = k }) same
 
 owned : (note : Note) (o : Option Note) (id : Number) → o ≡ Some note → note_id o id ≡ true → note.id ≡ id
 owned note o id stands own = same-number note.id id (ap (λ (x : Option Note). note_id x id) (sym stands) ∙ own)
@@ -164,7 +158,7 @@ module _ (script : Script) (is : IsScript script) (once : AttemptsAskOnce) (kind
           let m : MayAsk script.n before.hand.id phases.past call.bay (Put row id n cell) = subst (λ (w : Request). MayAsk script.n before.hand.id phases.past call.bay w) what may in
           let put : MayPut script.n phases.past (slot_on row call.bay) = m.3 in
           let granted : IsIn (slot_on row call.bay) (past_of calls).granted = subst (λ (xs : List Slot). IsIn (slot_on row call.bay) xs) phases.same.granted put.granted in
-          let claimed : IsIn (slot_on row call.bay) phases.past.claimed = subst (λ (xs : List Slot). IsIn (slot_on row call.bay) xs) (sym phases.same.claimed) (granted-claimed calls (slot_on row call.bay) granted) in
+          let claimed : IsIn (slot_on row call.bay) phases.past.claimed = subst (λ (xs : List Slot). IsIn (slot_on row call.bay) xs) (sym phases.same.claimed) (granted-claimed (slot_on row call.bay) calls granted) in
           not-confirmed (subst (λ (xs : List RowNo). IsIn row xs) phases.same.confirmed
           (all-in (λ (claim : Slot). IsIn claim.row phases.past.confirmed) (slot_on row call.bay) phases.past.claimed put.confirmed claimed))
 
@@ -316,7 +310,7 @@ module _ (script : Script) (is : IsScript script) (once : AttemptsAskOnce) (kind
           named = ap (λ (w : Request). id_of w) c.what
 
           closes : (other : HostNo) (s : Steps Finish) (k : HasHand script later other s) → k.hand.id ≡ c.id → IsIn row (past_of (calls_at script later other)).confirmed → CameAs other s k → ⊥
-          closes other s k same done (Stayed st) = other-id script is earlier call along other k.hand.id k.hand.own st.other (named ∙ ap (λ (n : Number). Some n) (sym same))
+          closes other s k same done (Stayed st) = other-id script is earlier call along other k.hand.id st.other k.hand.own (named ∙ ap (λ (n : Number). Some n) (sym same))
           closes other s k same done (Begun own bare) = subst (λ (xs : List Call). IsIn row (past_of xs).confirmed) bare done
           closes other s k same done (Went g) =
               by (confirmed-by row (past_of (calls_at script earlier other)) call.bay call.ask.what call.answer.reply (subst (λ (xs : List Call). IsIn row (past_of xs).confirmed) g.calls done))
@@ -347,7 +341,7 @@ module _ (script : Script) (is : IsScript script) (once : AttemptsAskOnce) (kind
       -- a call of another host
       module _ (other : (call.ask.host.0 == host.0) ≡ false) (seized : Option Note) where
         apart-id : (id : Number) → id_of call.ask.what ≡ Some id → id ≡ h.hand.id → ⊥
-        apart-id id named same = other-id script is earlier call along host h.hand.id h.hand.own other (named ∙ ap (λ (n : Number). Some n) same)
+        apart-id id named same = other-id script is earlier call along host h.hand.id other h.hand.own (named ∙ ap (λ (n : Number). Some n) same)
 
         -- a put by the note's id, or its release
         not-asked : (noted : Noted earlier h.hand.id seized) (id : Number) → id_of call.ask.what ≡ Some id → note_id (note_on earlier place) id ≡ true →
@@ -506,7 +500,7 @@ module _ (script : Script) (is : IsScript script) (once : AttemptsAskOnce) (kind
               claims-new script is once kinds host q.jobs q.row q.seen q.calls g.steps g.before.hand call parity row g.asked what first
 
           by : CameAs host steps h → ⊥
-          by (Stayed st) = other-id script is earlier call along host h.hand.id h.hand.own st.other (ap (λ (w : Request). id_of w) c.what ∙ ap (λ (n : Number). Some n) named)
+          by (Stayed st) = other-id script is earlier call along host h.hand.id st.other h.hand.own (ap (λ (w : Request). id_of w) c.what ∙ ap (λ (n : Number). Some n) named)
           by (Begun own bare) = subst (λ (xs : List Call). IsIn x xs) bare among
           by (Went g) = on (subst (λ (xs : List Call). IsIn x xs) g.calls among)
             where

@@ -1,5 +1,5 @@
 -- Calls and the attempts in hand that asked them.
-use Rattle.std.proofs.Common.{◌≡◌, ◌⊎◌, inl, inr, refl, sym, ap, subst, ◌∙◌, ℕ, ◌%◌, ◌==◌, Bool, true, false, if◌then◌else◌, List, [], ◌∷◌, Option, Some, None, arith}
+use Rattle.std.proofs.Common.{◌≡◌, ◌⊎◌, inl, inr, refl, sym, ap, subst, ◌∙◌, ℕ, ◌==◌, Bool, true, false, if◌then◌else◌, List, [], ◌∷◌, Option, Some, None, arith}
 use Rattle.std.proofs.lemmas.Bool.{eq-eqb}
 use Rattle.std.proofs.lemmas.Bool.Decides.{nat_tests}
 use Rattle.raid_base.specs.declared.numbers.BayNo.{BayNo}
@@ -33,7 +33,9 @@ use Rattle.schedule_play.specs.Holding.{IsMendClaim}
 use Rattle.schedule_play.specs.Hands.{HasHand, calls_at}
 use Rattle.schedule_play.proofs.AccessIds.{ids_are_apart}
 use Rattle.schedule_play.proofs.HandMoves.{asked-id, Came, Stayed, Begun, Went, came}
-use Rattle.schedule_play.proofs.HolderNotesHands.{kind_of, claim-kind, mend-operator, seize-recovers}
+use Rattle.schedule_play.proofs.HolderNotesHands.{claim-kind, mend-operator}
+use Rattle.schedule_play.proofs.HandClaims.{kind_of, seize-recovers}
+use Rattle.schedule_play.proofs.RowOwnersHands.{other-id}
 
 -- The calls with an id
 with-own : (id : Number) (call : Call) (earlier : List Call) → id_of call.ask.what ≡ Some id → calls_with id (call ∷ earlier) ≡ call ∷ calls_with id earlier
@@ -106,13 +108,6 @@ module _ (script : Script) (is : IsScript script) where
         by (Fitting bay) was asked h = let same : record { bay = bay; request = Fit } ≡ errand_of call = cc in absurd (unnamed Fit (ap (λ (e : Errand). e.request) same) refl)
         by Over was asked h = absurd (cc)
 
-    -- the ids of other hosts differ
-    pub other-id : (host : HostNo) (id : Number) → id.0 % 16 ≡ host.0 → (call.ask.host.0 == host.0) ≡ false → id_of call.ask.what ≡ Some id → ⊥
-    other-id host id own other named =
-        let mine : id.0 % 16 ≡ call.ask.host.0 = (ids_are_apart script (call ∷ earlier) is along).own.0 id named in
-        let same : call.ask.host.0 ≡ host.0 = sym mine ∙ own in
-        absurd (let bad : true ≡ false = sym (eq-eqb call.ask.host.0 host.0 same) ∙ other in cc)
-
     -- all calls before with the asker's id are its calls
     pub asker-calls : (host : HostNo) (steps : Steps Finish) → (before : HasHand script earlier host steps) → next_errand steps ≡ Some (errand_of call) → calls_with before.hand.id earlier ≡ calls_at script earlier host
     asker-calls host steps before asked =
@@ -128,7 +123,7 @@ module _ (script : Script) (is : IsScript script) where
           ((s : Steps Finish) (before : HasHand script earlier host s) (x : Call) → IsIn x (calls_at script earlier host) → calls_with before.hand.id earlier ≡ calls_at script earlier host) →
           calls_with h.hand.id (call ∷ earlier) ≡ calls_at script (call ∷ earlier) host
       by (Stayed s) rest =
-          with-other h.hand.id call earlier (other-id earlier call along host h.hand.id h.hand.own s.other)
+          with-other h.hand.id call earlier (other-id script is earlier call along host h.hand.id s.other h.hand.own)
           ∙ ap (λ (n : Number). calls_with n earlier) (sym s.same_id)
           ∙ rest steps s.before x (subst (λ (xs : List Call). IsIn x xs) s.calls i)
           ∙ sym s.calls

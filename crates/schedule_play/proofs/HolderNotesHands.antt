@@ -7,7 +7,7 @@ use Rattle.raid_base.specs.declared.numbers.HostNo.{HostNo}
 use Rattle.raid_base.specs.declared.numbers.RowNo.{RowNo}
 use Rattle.raid_base.specs.declared.numbers.Number.{Number}
 use Rattle.raid_base.specs.declared.messages.How.{How}
-use Rattle.raid_base.specs.declared.messages.How.TheVariants.{Plain, Seize, Mend}
+use Rattle.raid_base.specs.declared.messages.How.TheVariants.{Plain, Mend}
 use Rattle.raid_base.specs.declared.messages.Grant.{Grant}
 use Rattle.raid_base.specs.declared.messages.Reply.{Reply}
 use Rattle.raid_base.specs.declared.messages.Request.{Request}
@@ -25,7 +25,7 @@ use Rattle.raid_base.specs.Replies.{grant_of}
 use Rattle.raid_base.specs.Steps.{Steps, Asks, Draws, Ends, Standing, settled, behind, next_errand, errand_of}
 use Rattle.stripe_layout.specs.Placement.{parity_bay}
 use Rattle.attempts.specs.Taking.{Finish}
-use Rattle.attempts.specs.Phases.{Slot, Past, IsIn, MayAsk, Keeps, parity_slot, has_slot, is_due, grants, after_asking}
+use Rattle.attempts.specs.Phases.{Slot, Past, IsIn, MayAsk, Keeps, parity_slot, has_slot, is_due, after_asking}
 use Rattle.attempts.specs.Recovery.{is_seized}
 use Rattle.attempts.specs.Once.{with_taken, MayTake, Once, ClaimsSo, EachClaims, AttemptsAskOnce, ClaimsAreOfTheirKind}
 use Rattle.attempts.proofs.PhaseLemmas.{slot_on}
@@ -37,6 +37,7 @@ use Rattle.host_engine.specs.Progress.{Over, Progress, access, attempt, read_of,
 use Rattle.host_engine.proofs.PhasedHands.{phased, found-parts, rows-differ}
 use Rattle.schedule_play.proofs.HandMoves.{may-next}
 use Rattle.schedule_play.proofs.HolderNotesTrees.{with_granted, freed, with_free, passes, MayFind, Finds, recovers-find}
+use Rattle.schedule_play.proofs.HandClaims.{kind_of}
 
 -- Along the calls that led to a standing
 module _ (host : HostNo) (P : List Call → Steps Finish → Type 0)
@@ -51,7 +52,7 @@ module _ (host : HostNo) (P : List Call → Steps Finish → Type 0)
 abbrev Within : List Slot → List Slot → Type 0
 Within xs ys = (slot : Slot) → IsIn slot xs → IsIn slot ys
 
-asked-claimed : (past : Past) (bay : BayNo) (what : Request) (r : Reply) → Within past.claimed (after_asking past bay what r).claimed
+pub asked-claimed : (past : Past) (bay : BayNo) (what : Request) (r : Reply) → Within past.claimed (after_asking past bay what r).claimed
 asked-claimed past bay (Share row id want) r slot i = i
 asked-claimed past bay (Claim row id how mask want) r slot i = inr i
 asked-claimed past bay (Confirm row id want) r slot i = i
@@ -71,24 +72,6 @@ asked-put past bay Fit r slot i = i
 
 pub put-more : (call : Call) (calls : List Call) → Within (past_of calls).put (past_of (call ∷ calls)).put
 put-more call calls slot i = asked-put (past_of calls) call.bay call.ask.what call.answer.reply slot i
-
-asked-granted : (past : Past) (bay : BayNo) (what : Request) (r : Reply) → Within past.granted past.claimed → Within (after_asking past bay what r).granted (after_asking past bay what r).claimed
-asked-granted past bay (Share row id want) r h slot i = h slot i
-asked-granted past bay (Claim row id how mask want) r h slot i = by (grant_of r) i
-  where
-    by : (o : Option Grant) → IsIn slot (grants o (slot_on row bay) past.granted) → (slot_on row bay ≡ slot) ⊎ IsIn slot past.claimed
-    by None i = inr (h slot i)
-    by (Some grant) (inl same) = inl same
-    by (Some grant) (inr i) = inr (h slot i)
-asked-granted past bay (Confirm row id want) r h slot i = h slot i
-asked-granted past bay (Put row id n cell) r h slot i = h slot i
-asked-granted past bay (Release row id n) r h slot i = h slot i
-asked-granted past bay Lose r h slot i = h slot i
-asked-granted past bay Fit r h slot i = h slot i
-
-pub granted-claimed : (calls : List Call) → Within (past_of calls).granted (past_of calls).claimed
-granted-claimed [] slot i = i
-granted-claimed (call ∷ calls) slot i = asked-granted (past_of calls) call.bay call.ask.what call.answer.reply (granted-claimed calls) slot i
 
 asked-phase : (past : Past) (bay : BayNo) (what : Request) (r : Reply) (row : RowNo) → (IsIn row past.confirmed → 1 ≤ past.phase) → IsIn row (after_asking past bay what r).confirmed →
     1 ≤ (after_asking past bay what r).phase
@@ -182,14 +165,6 @@ once-told host seen calls call (Draws k) h asked = absurd (cc)
 once-told host seen calls call (Ends f) h asked = absurd (cc)
 
 -- Claims are of a kind
-abbrev pub kind_of : Task → How
-kind_of (tasks.Read object first count) = Plain
-kind_of (tasks.Write object first from count) = Plain
-kind_of (tasks.Recover row) = Seize
-kind_of (tasks.Rebuild bay) = Mend
-kind_of (tasks.Lose bay) = Plain
-kind_of (tasks.Fit bay) = Plain
-
 record Kinds (n : ℕ) (kind : How) (calls : List Call) (s : Steps Finish) : Type 0 where
   each : EachClaims n kind s
   asked : AllByRecursion (λ (call : Call). ClaimsSo n kind call.bay call.ask.what) calls
@@ -399,14 +374,6 @@ mend-operator script host (tasks.Recover row) aim e = absurd (cc)
 mend-operator script host (tasks.Rebuild bay) aim e = aim.0
 mend-operator script host (tasks.Lose bay) aim e = absurd (cc)
 mend-operator script host (tasks.Fit bay) aim e = absurd (cc)
-
-pub seize-recovers : (task : Task) → Seize ≡ kind_of task → (row : RowNo) × (task ≡ tasks.Recover row)
-seize-recovers (tasks.Read object first count) e = absurd (cc)
-seize-recovers (tasks.Write object first from count) e = absurd (cc)
-seize-recovers (tasks.Recover row) e = (row, refl)
-seize-recovers (tasks.Rebuild bay) e = absurd (cc)
-seize-recovers (tasks.Lose bay) e = absurd (cc)
-seize-recovers (tasks.Fit bay) e = absurd (cc)
 
 -- The parity of a row is claimed first
 module _ (script : Script) (is : IsScript script) (host : HostNo) where

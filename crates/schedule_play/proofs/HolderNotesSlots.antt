@@ -25,7 +25,7 @@ use Rattle.host_engine.specs.Calls.{row_of, is_row, is_at, IsClaim}
 use Rattle.host_engine.specs.History.{IsNext, IsHistory, bay_at}
 use Rattle.schedule_play.specs.RowStates.{slot_at}
 use Rattle.schedule_play.proofs.SlotMoves.{SlotMove, Kept, Touched, Lost, Fitted, outcome_at, moved}
-use Rattle.schedule_play.proofs.SlotDoes.{IsGone, Does, Refuses, Closes, Grants, Shows, Holds, Puts, Frees, Leaves, slot-does}
+use Rattle.schedule_play.proofs.SlotDoes.{IsGone, Does, Refuses, Closes, Grants, Shows, Holds, Puts, Frees, Leaves, slot-does, refused-none, Claims}
 
 -- a claim of the slot that was granted
 abbrev pub IsGranted : BayNo → RowNo → Call → Type 0
@@ -64,18 +64,24 @@ pub data Turned (old : Bay) (at : BayNo) (row : RowNo) (call : Call) (new : Bay)
   Cleared : (what : call.ask.what ≡ Lose) (note : (slot_of new row).note ≡ None) (cell : (slot_of new row).cell ≡ None) (life : new.life ≡ old.life + 1) → Turned old at row call new
   Renewed : (what : call.ask.what ≡ Fit) (was : old.empty ≡ true) (note : (slot_of new row).note ≡ None) (cell : (slot_of new row).cell ≡ None) (life : new.life ≡ old.life) → Turned old at row call new
 
-pub refused-none : (r : Reply) → is_refused r ≡ true → grant_of r ≡ None
-refused-none (Granted cell read_no write_no last life seized) e = absurd (cc)
-refused-none (Busy holder) e = refl
-refused-none (Late above) e = refl
-refused-none (Young note) e = refl
-refused-none (Missing floor) e = refl
-refused-none (Held cell) e = refl
-refused-none (NoNote life) e = refl
-refused-none Done e = refl
-refused-none Fault e = refl
-refused-none Emptied e = refl
-refused-none Fitted e = refl
+-- a claim that the slot rule granted was claimed
+pub claimed-so : (old : Bay) (at : BayNo) (row : RowNo) (call : Call) (new : Bay) → call.bay ≡ at → new.empty ≡ old.empty → new.life ≡ old.life → (r : RowNo) (id : Number) (how : How) (mask : ℕ) (want : Bool) (reply : Reply) (left : Slot) →
+    Claims old call.ask (slot_of old row) id how mask want reply left → call.ask.what ≡ Claim r id how mask want → r ≡ row → call.answer.reply ≡ reply → slot_of new row ≡ left → Claimed old at row call new
+claimed-so old at row call new place empty life r id how mask want reply left claims e here answered now = record {
+  place = place;
+  id = id;
+  how = how;
+  mask = mask;
+  want = want;
+  what = e ∙ ap (λ (x : RowNo). Claim x id how mask want) here;
+  grant = ap grant_of (answered ∙ claims.reply);
+  note = ap (λ (s : Slot). s.note) (now ∙ claims.left);
+  cell = ap (λ (s : Slot). s.cell) (now ∙ claims.left);
+  there = empty ∙ claims.there;
+  life = life;
+  found = claims.cell;
+  free = claims.free;
+}
 
 module _ (old : Bay) (at : BayNo) (row : RowNo) (call : Call) (new : Bay) where
   abbrev Turns : Type 0
@@ -101,22 +107,7 @@ module _ (old : Bay) (at : BayNo) (row : RowNo) (call : Call) (new : Bay) where
     turned-by what reply left (Closes there none) e of answered now =
         Closed none (ap (λ (s : Slot). s.note) now) (ap (λ (s : Slot). s.cell) now ∙ none) empty life (not-granted (ap grant_of answered))
     turned-by what reply left (Grants {row = r} {id} {how} {mask} {want} claims) e of answered now =
-        let here : r ≡ row = cc in
-        Taken (record {
-          place = place;
-          id = id;
-          how = how;
-          mask = mask;
-          want = want;
-          what = e ∙ ap (λ (x : RowNo). Claim x id how mask want) here;
-          grant = ap grant_of (answered ∙ claims.reply);
-          note = ap (λ (s : Slot). s.note) (now ∙ claims.left);
-          cell = ap (λ (s : Slot). s.cell) (now ∙ claims.left);
-          there = empty ∙ claims.there;
-          life = life;
-          found = claims.cell;
-          free = claims.free;
-        })
+        Taken (claimed-so old at row call new place empty life r id how mask want reply left claims e (cc) answered now)
     turned-by what reply left (Shows {row = r} {id} {want} shares) e of answered now =
         Same (ap (λ (s : Slot). s.note) now ∙ shares.note_kept) (ap (λ (s : Slot). s.cell) now ∙ shares.cell_kept) empty life (not-claim (Share r id want) e (λ i how mask w bad. absurd (cc)))
     turned-by what reply left (Holds {row = r} {id} {want} own) e of answered now =

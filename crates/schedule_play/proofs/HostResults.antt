@@ -15,9 +15,9 @@ use Rattle.host_engine.specs.History.{progress_at, endings_at, has_ended}
 use Rattle.host_engine.proofs.EndingLemmas.{endings_are_filled}
 use Rattle.schedule_play.specs.Headline.{reported, reported_at}
 use Rattle.schedule_play.specs.Told.{HostsHaveResults, NumbersAreApart}
-use Rattle.schedule_play.proofs.MissingBays.{same-host}
 use Rattle.schedule_play.proofs.ResultNumbers.{AllOwn, hosts-apart}
 use Rattle.schedule_play.proofs.ResultWalks.{told_of, Good, HasInHand, Stands, history-stands}
+use Rattle.schedule_play.proofs.SameNumbers.{same-host}
 
 both : (a b : Bool) → (a && b) ≡ true → (a ≡ true) × (b ≡ true)
 both true b e = (refl, e)

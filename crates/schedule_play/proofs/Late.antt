@@ -1,16 +1,12 @@
 -- Contents come late: each has a number above those of all reads of its unit's slot and of its row's parity.
-use Rattle.std.proofs.Common.{◌≡◌, ◌⊎◌, inl, inr, sym, ap, subst, ◌∙◌, ℕ, ◌+◌, ◌<◌, List, [], ◌∷◌, length, arith}
+use Rattle.std.proofs.Common.{◌≡◌, ◌⊎◌, inl, inr, sym, ap, subst, ◌∙◌, ℕ, ◌+◌, ◌<◌, List, ◌∷◌, length, arith}
 use Rattle.raid_base.specs.declared.numbers.BayNo.{BayNo}
 use Rattle.raid_base.specs.declared.numbers.RowNo.{RowNo}
 use Rattle.raid_base.specs.declared.numbers.Number.{Number}
 use Rattle.raid_base.specs.declared.messages.Call.{Call}
-use Rattle.raid_base.specs.declared.messages.Reply.{Reply}
-use Rattle.raid_base.specs.declared.messages.Request.{Request}
-use Rattle.raid_base.specs.declared.messages.Request.TheVariants.{Put}
 use Rattle.stripe_layout.specs.Placement.{parity_bay, bay_of}
 use Rattle.script_text.specs.Script.{Script}
 use Rattle.script_text.specs.Ranges.{IsScript}
-use Rattle.host_engine.specs.Calls.{row_of, write_of}
 use Rattle.host_engine.specs.History.{IsHistory}
 use Rattle.schedule_play.specs.Holding.{Owns}
 use Rattle.schedule_play.specs.Laws.{reads, AllBelow}
@@ -19,9 +15,9 @@ use Rattle.schedule_play.specs.Seen.{IsLate, ContentsAreLate}
 use Rattle.schedule_play.proofs.BareReads.{bare-reads-below}
 use Rattle.schedule_play.proofs.OwnedPuts.{puts_are_of_owners}
 use Rattle.schedule_play.proofs.ParityReads.{noted-reads-below}
-use Rattle.schedule_play.proofs.Risen.{numbers_rise}
 use Rattle.schedule_play.proofs.RisingCommits.{TakesOne, taken-moved}
 use Rattle.schedule_play.proofs.UnitReads.{unit-reads-below}
+use Rattle.schedule_play.proofs.Risen.{done-rises}
 
 -- a list is not longer than itself
 pub no-longer : {X : Type 0} (x : X) (xs : List X) → x ∷ xs ≡ xs → ⊥
@@ -31,9 +27,7 @@ module _ (script : Script) (is : IsScript script) (earlier : List Call) (call : 
     (t : TakesOne script earlier call row unit) where
   -- the number is above those of all reads of the slot that is put
   put-late : AllBelow t.number (reads script call.bay row earlier)
-  put-late =
-      ((numbers_rise script [] earlier call row t.number is along (ap (λ (w : Request). row_of w) t.what)).0
-      (ap (λ (w : Request). write_of w call.answer.reply) t.what ∙ ap (λ (r : Reply). write_of (Put row t.id t.number t.cell) r) t.done)).1
+  put-late = (done-rises script is earlier call along row t.id t.number t.cell t.what t.done).1
 
   own-late : call.bay ≡ bay_of script.n row unit → Owns script earlier row t.id → AllBelow t.number (reads script (parity_bay script.n row) row earlier)
   own-late place (inl none) = bare-reads-below script is earlier call along row below unit inside t place none

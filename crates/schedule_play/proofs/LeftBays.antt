@@ -1,82 +1,48 @@
 -- Refused attempts leave nothing.
-use Rattle.std.proofs.Common.{◌≡◌, ◌⊎◌, inl, inr, ℕ, ◌<◌, ◌==◌, Bool, true, false, List, [], ◌∷◌, find, cond, length, Option, Some, None, refl, sym, ap, subst, ◌∙◌, arith}
-use Rattle.std.specs.List.{AllByRecursion, All}
+use Rattle.std.proofs.Common.{◌≡◌, ◌⊎◌, inl, inr, ◌<◌, ◌==◌, Bool, true, false, List, [], ◌∷◌, Option, Some, None, refl, sym, ap, subst, ◌∙◌, arith}
 use Rattle.std.proofs.lemmas.Bool.Decides.{nat_tests}
-use Rattle.std.proofs.lemmas.List.{get_or-replicate, length-replicate}
-use Rattle.std.proofs.lemmas.List.Elements.{recursion_from_All}
 use Rattle.raid_base.specs.declared.numbers.BayNo.{BayNo}
 use Rattle.raid_base.specs.declared.numbers.HostNo.{HostNo}
 use Rattle.raid_base.specs.declared.numbers.RowNo.{RowNo}
 use Rattle.raid_base.specs.declared.numbers.Number.{Number}
 use Rattle.raid_base.specs.declared.messages.Mode.{Mode}
 use Rattle.raid_base.specs.declared.messages.Note.{Note}
-use Rattle.raid_base.specs.declared.messages.Ask.{Ask}
 use Rattle.raid_base.specs.declared.messages.Call.{Call}
 use Rattle.raid_base.specs.declared.messages.PutEnd.{PutEnd}
 use Rattle.raid_base.specs.declared.messages.PutEnd.TheVariants.{Made, Unnoted, Failed}
 use Rattle.raid_base.specs.declared.messages.Reply.{Reply}
 use Rattle.raid_base.specs.declared.messages.Request.{Request}
 use Rattle.raid_base.specs.declared.messages.Request.TheVariants.{Share, Claim, Confirm, Put, Release, Lose, Fit}
-use Rattle.raid_base.specs.declared.messages.Errand.{Errand}
 use Rattle.raid_base.specs.declared.jobs.Job.{Job}
 use Rattle.raid_base.specs.Fits.{fits}
-use Rattle.raid_base.specs.Numbers.{number}
 use Rattle.raid_base.specs.Replies.{is_fault, put_end}
 use Rattle.raid_base.specs.Steps.{errand_of}
 use Rattle.slot_rules.specs.declared.Reader.{Reader}
-use Rattle.slot_rules.specs.Slots.{Slot, Bay, bare_slot, first_slot, slot_of}
+use Rattle.slot_rules.specs.Slots.{Slot, slot_of}
 use Rattle.slot_rules.specs.Rules.{rule}
 use Rattle.slot_rules.specs.Serving.{row_of}
 use Rattle.slot_rules.specs.Laws.{is_row}
-use Rattle.slot_rules.proofs.RowSteps.{goes}
 use Rattle.slot_rules.proofs.RuleLaws.{replies_fit_lem}
 use Rattle.attempts.specs.Phases.{IsIn}
-use Rattle.script_text.specs.Script.{Script, HostJobs, jobs_in}
-use Rattle.script_text.specs.Ranges.{IsScript, IsJob, IsTask}
+use Rattle.script_text.specs.Script.{Script}
+use Rattle.script_text.specs.Ranges.{IsScript}
 use Rattle.host_engine.specs.Calls.{Happened}
-use Rattle.host_engine.specs.Progress.{Work, Trying, Losing, Fitting, Over, Progress, Ending, Sent, work_errand, sent_by}
+use Rattle.host_engine.specs.Progress.{Work, Trying, Losing, Fitting, Over, Progress, Ending, work_errand}
 use Rattle.host_engine.specs.History.{IsHistory, IsNext, progress_at, if_taken, bay_at, if_ruled}
+use Rattle.host_engine.proofs.Attempting.{sent-errand}
 use Rattle.schedule_play.specs.RowStates.{slot_at}
 use Rattle.schedule_play.specs.Leftovers.{HasId, HasLeft, IsSeizure, RefusedLeaveNothing}
 use Rattle.schedule_play.proofs.LeftSlots.{Apart, HasNote, HasReader, ClaimedBy, SharedBy, Unputs, Frees, LetsRow, Its, Same, Bare, row-lets}
 use Rattle.schedule_play.proofs.LeftHosts.{NewNote, NewReader, Covered, Mine, SafeWork, Safe, begins-safe, GonePut, Gone_by, Moves, Leaves_be, safe-be, work-safe}
-
-same-bay : (a b : BayNo) → (a.0 == b.0) ≡ true → a ≡ b
-same-bay a b e = let same : a.0 ≡ b.0 = grind (arith, nat_tests) in ap (λ (k : ℕ). record { 0 = k }) same
-
-same-host : (a b : HostNo) → (a.0 == b.0) ≡ true → a ≡ b
-same-host a b e = let same : a.0 ≡ b.0 = grind (arith, nat_tests) in ap (λ (k : ℕ). record { 0 = k }) same
+use Rattle.schedule_play.proofs.SameNumbers.{same-bay, same-host}
+use Rattle.schedule_play.proofs.HostTasks.{host-tasks}
+use Rattle.schedule_play.proofs.BayRows.{bay-rows, bay-mode, starts-first}
 
 own-host : (a : HostNo) → (a.0 == a.0) ≡ true
 own-host a = grind (arith, nat_tests)
 
 own-row : (row : RowNo) → is_row row (Some row) ≡ true
 own-row row = grind (arith, nat_tests)
-
--- the jobs of a host of a script are its to do
-job-tasks : (script : Script) (host : HostNo) (jobs : List Job) → AllByRecursion (IsJob script host) jobs → AllByRecursion (λ (job : Job). IsTask script host job.task) jobs
-job-tasks script host [] h = tt
-job-tasks script host (job ∷ jobs) h = (h.0.task, job-tasks script host jobs h.1)
-
-pub host-tasks : (script : Script) (host : HostNo) (hosts : List HostJobs) → AllByRecursion (λ (h : HostJobs). All (IsJob script h.host) h.jobs) hosts →
-    AllByRecursion (λ (job : Job). IsTask script host job.task) (jobs_in (find (λ (h : HostJobs). h.host.0 == host.0) hosts))
-host-tasks script host [] h = tt
-host-tasks script host (first ∷ hosts) h = by (first.host.0 == host.0) refl (host-tasks script host hosts h.1)
-  where
-    by : (b : Bool) → (first.host.0 == host.0) ≡ b → AllByRecursion (λ (job : Job). IsTask script host job.task) (jobs_in (find (λ (x : HostJobs). x.host.0 == host.0) hosts)) →
-        AllByRecursion (λ (job : Job). IsTask script host job.task) (jobs_in (cond b (Some first) (find (λ (x : HostJobs). x.host.0 == host.0) hosts)))
-    by true e rest =
-        subst (λ (x : HostNo). AllByRecursion (λ (job : Job). IsTask script x job.task) first.jobs) (same-host first.host host e)
-        (job-tasks script first.host first.jobs (recursion_from_All (IsJob script first.host) first.jobs h.0))
-    by false e rest = rest
-
--- the errand of a request that was sent
-sent-errand : (host : HostNo) (clock moment : ℕ) (e : Option Errand) (bay : BayNo) (ask : Ask) → sent_by host clock moment e ≡ Some (record { bay = bay; ask = ask }) →
-    e ≡ Some (record { bay = bay; request = ask.what })
-sent-errand host clock moment None bay ask h = absurd (cc)
-sent-errand host clock moment (Some errand) bay ask h =
-    let same : record { bay = errand.bay; ask = record { host = host; clock = clock; moment = moment; what = errand.request } } ≡ record { bay = bay; ask = ask } = cc in
-    ap (λ (s : Sent). Some (record { bay = s.bay; request = s.ask.what })) same
 
 module _ (script : Script) (is : IsScript script) where
   -- notes and readers of a host that stand
@@ -88,25 +54,6 @@ module _ (script : Script) (is : IsScript script) where
 
   abbrev S : HostNo → List Call → Number → Type 0
   S host history x = Happened (IsSeizure host x) history
-
-  ruled-rows : (bay : Bay) (call : Call) (own : Bool) → length bay.slots ≡ script.rows → length (if_ruled bay call own).slots ≡ script.rows
-  ruled-rows bay call true e = (goes bay call.ask (is_fault call.answer.reply)).rows ∙ e
-  ruled-rows bay call false e = e
-
-  pub bay-rows : (at : BayNo) (history : List Call) → length (bay_at script at history).slots ≡ script.rows
-  bay-rows at [] = length-replicate script.rows first_slot
-  bay-rows at (call ∷ earlier) = ruled-rows (bay_at script at earlier) call (call.bay.0 == at.0) (bay-rows at earlier)
-
-  ruled-mode : (bay : Bay) (call : Call) (own : Bool) → bay.mode ≡ script.mode → (if_ruled bay call own).mode ≡ script.mode
-  ruled-mode bay call true e = (goes bay call.ask (is_fault call.answer.reply)).mode ∙ e
-  ruled-mode bay call false e = e
-
-  pub bay-mode : (at : BayNo) (history : List Call) → (bay_at script at history).mode ≡ script.mode
-  bay-mode at [] = refl
-  bay-mode at (call ∷ earlier) = ruled-mode (bay_at script at earlier) call (call.bay.0 == at.0) (bay-mode at earlier)
-
-  pub starts : (at : BayNo) (row : RowNo) → row.0 < script.rows → slot_at script [] at row ≡ first_slot
-  starts at row below = get_or-replicate script.rows row.0 first_slot (bare_slot (number 0)) below
 
   module _ (earlier : List Call) (call : Call) (next : IsNext script earlier call) where
     abbrev r : Reply
@@ -125,11 +72,11 @@ module _ (script : Script) (is : IsScript script) where
     ruled : (at : BayNo) (row : RowNo) → row.0 < script.rows → call.bay ≡ at →
         LetsRow script.mode call.ask row (slot_of (bay_at script at earlier) row) r (slot_of (rule (bay_at script at earlier) call.ask (is_fault call.answer.reply)).bay row)
     ruled at row below same =
-        let rows = bay-rows at earlier in
+        let rows = bay-rows script at earlier in
         let told : (rule (bay_at script at earlier) call.ask (is_fault call.answer.reply)).reply ≡ call.answer.reply =
         subst (λ (b : BayNo). (rule (bay_at script b earlier) call.ask (is_fault call.answer.reply)).reply ≡ call.answer.reply) same (sym reply-is) in
         subst (λ (m : Mode). LetsRow m call.ask row (slot_of (bay_at script at earlier) row) r (slot_of (rule (bay_at script at earlier) call.ask (is_fault call.answer.reply)).bay row))
-        (bay-mode at earlier)
+        (bay-mode script at earlier)
         (subst (λ (x : Reply). LetsRow (bay_at script at earlier).mode call.ask row (slot_of (bay_at script at earlier) row) x (slot_of (rule (bay_at script at earlier) call.ask (is_fault call.answer.reply)).bay row))
         told (row-lets (bay_at script at earlier) call.ask (is_fault call.answer.reply) row (omega (arith, below, rows))))
 
@@ -355,15 +302,15 @@ module _ (script : Script) (is : IsScript script) where
               (progress_at script host earlier) s
 
   apart-at : (history : List Call) → IsHistory script history → (at : BayNo) (row : RowNo) → row.0 < script.rows → Apart (slot_at script history at row)
-  apart-at [] h at row below = subst Apart (sym (starts at row below)) (λ note x f i own. i)
+  apart-at [] h at row below = subst Apart (sym (starts-first script at row below)) (λ note x f i own. i)
   apart-at (call ∷ earlier) h at row below = apart-next earlier call h.1 at row below (apart-at earlier h.0 at row below)
 
   host-safe : (history : List Call) → IsHistory script history → (host : HostNo) → Safe script is host (N host history) (R host history) (S host history) (progress_at script host history)
   host-safe [] h host =
       begins-safe script is host (N host []) (R host []) (S host [])
-      (host-tasks script host script.hosts (recursion_from_All (λ (x : HostJobs). All (IsJob script x.host) x.jobs) script.hosts is.jobs))
-      (λ at row x n. let bad : None ≡ Some n.0 = ap (λ (s : Slot). s.note) (sym (starts at row n.1)) ∙ n.2 in cc)
-      (λ at row x n. subst (λ (s : Slot). IsIn n.0 s.readers) (starts at row n.1) n.2)
+      (host-tasks script is host)
+      (λ at row x n. let bad : None ≡ Some n.0 = ap (λ (s : Slot). s.note) (sym (starts-first script at row n.1)) ∙ n.2 in cc)
+      (λ at row x n. subst (λ (s : Slot). IsIn n.0 s.readers) (starts-first script at row n.1) n.2)
   host-safe (call ∷ earlier) h host = host-next earlier call h.1 host (λ at row below. apart-at earlier h.0 at row below) (host-safe earlier h.0 host)
 
   -- what stands is of the attempt in hand, or covered

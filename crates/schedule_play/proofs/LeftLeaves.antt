@@ -1,10 +1,8 @@
 -- What an attempt may ask, and that it holds nothing at its end but where it is done in part, or seizes.
-use Rattle.std.proofs.Common.{◌≡◌, ◌⊎◌, inl, inr, ℕ, ◌+◌, ◌-◌, ◌<◌, ◌≤◌, not, Bool, true, false, if◌then◌else◌, List, [], ◌∷◌, map, Option, Some, None, IsSome, Result, Ok, Err, refl, sym, ap, subst, ◌∙◌, arith}
-use Rattle.std.specs.Prelude.{eqb, nat_lt, ok_or, ◌*◌, ◌/◌, ◌%◌}
-use Rattle.std.specs.List.{AllByRecursion, IsDistinct}
-use Rattle.std.proofs.lemmas.Bool.{eq-eqb}
+use Rattle.std.proofs.Common.{◌≡◌, ◌⊎◌, inl, inr, ℕ, ◌+◌, ◌<◌, ◌≤◌, not, Bool, true, false, if◌then◌else◌, List, [], ◌∷◌, map, Option, Some, None, IsSome, Result, Ok, Err, refl, sym, ap, subst, ◌∙◌, arith}
+use Rattle.std.specs.Prelude.{nat_lt, ok_or, ◌*◌, ◌/◌, ◌%◌}
+use Rattle.std.specs.List.{AllByRecursion}
 use Rattle.std.proofs.lemmas.Bool.Decides.{nat_tests}
-use Rattle.std.proofs.lemmas.Map.Keys.{IsDistinct-head, IsDistinct-tail}
 use Rattle.raid_base.specs.declared.numbers.BayNo.{BayNo}
 use Rattle.raid_base.specs.declared.numbers.HostNo.{HostNo}
 use Rattle.raid_base.specs.declared.numbers.RowNo.{RowNo}
@@ -31,10 +29,6 @@ use Rattle.raid_base.specs.Fits.{fits}
 use Rattle.raid_base.specs.Numbers.{number, least_above, draw, seen_drawn}
 use Rattle.raid_base.specs.Replies.{grant_of, put_end}
 use Rattle.raid_base.specs.Steps.{Steps, Asks, Draws, Ends, next_errand, behind, settled}
-use Rattle.virtual_objects.specs.Objects.{rows_of, parts_found}
-use Rattle.virtual_objects.specs.Table.{numbers}
-use Rattle.virtual_objects.specs.RowParts.{AreRowParts, ArePartsOf, part_rows}
-use Rattle.virtual_objects.proofs.JobLemmas.{are_parts}
 use Rattle.attempts.specs.declared.Repair.{Repair}
 use Rattle.attempts.specs.declared.Rescue.{Rescue}
 use Rattle.attempts.specs.Taking.{Access, Finish}
@@ -54,6 +48,7 @@ use Rattle.attempts.proofs.RepairReturns.{rebuilds_return, recoveries_return}
 use Rattle.script_text.specs.Script.{Script, parts_of, blocks_of}
 use Rattle.script_text.specs.Ranges.{IsScript, IsTask}
 use Rattle.host_engine.specs.Progress.{access, attempt, read_of, write_of}
+use Rattle.host_engine.proofs.PhasedHands.{rows-differ, found-parts}
 use Rattle.schedule_play.proofs.LeftTrees.{IfSeizes, StopsWell, IsWell, Walks, NoSlot, AnySlot, Claimed, reads-walk, writes-walk, mends-walk, recoveries-walk}
 
 -- which slots an attempt claims
@@ -177,20 +172,6 @@ written-ends held (ends.Refused cause) e = e
 written-ends held (ends.Recovered n closed lost) e = absurd e
 written-ends held ends.Mended e = absurd e
 
--- the rows of a job differ
-row-apart : (row : RowNo) (parts : List RowPart) → AllByRecursion (λ y. eqb row.0 y ≡ false) (numbers (part_rows parts)) → HasRow row parts → ⊥
-row-apart row [] h has = has
-row-apart row (part ∷ parts) h (inl same) =
-    let own : eqb row.0 part.row.0 ≡ true = eq-eqb row.0 part.row.0 (ap (λ (r : RowNo). r.0) (sym same)) in
-    let bad : true ≡ false = sym own ∙ h.0 in
-    cc
-row-apart row (part ∷ parts) h (inr has) = row-apart row parts h.1 has
-
-pub rows-differ : (parts : List RowPart) → IsDistinct eqb (numbers (part_rows parts)) → RowsDiffer parts
-rows-differ [] h = tt
-rows-differ (part ∷ parts) h =
-    (row-apart part.row parts (IsDistinct-head eqb part.row.0 (numbers (part_rows parts)) h), rows-differ parts (IsDistinct-tail eqb part.row.0 (numbers (part_rows parts)) h))
-
 -- an attempt of a task
 pub record Leaving (mode : Mode) (id : Number) (held : List Holding) (steps : Steps Finish) : Type 0 where
   pub aim : Aim
@@ -198,14 +179,6 @@ pub record Leaving (mode : Mode) (id : Number) (held : List Holding) (steps : St
   pub leaves : Leaves mode (Aims aim) seizes id held steps
 
 module _ (script : Script) (is : IsScript script) (host : HostNo) (id : Number) where
-  pub found-parts : (object : Name) (first count : ℕ) (parts : List RowPart) → 1 ≤ count → (found : Option (List RowNo)) →
-      rows_of script.objects object ≡ found → parts_found (script.n - 1) first count found ≡ Ok parts → AreRowParts script.n parts
-  found-parts object first count parts some None none ok = absurd (cc)
-  found-parts object first count parts some (Some rows) found ok =
-      let are : ArePartsOf script.n script.objects object first count parts =
-      are_parts script.n first count script.objects object rows parts (let h = is.devices_least in omega arith) some found is.objects.rows_apart ok in
-      are.sound
-
   abbrev Leads : Steps Finish → Type 0
   Leads s = Leaving script.mode id [] s
 
@@ -227,7 +200,7 @@ module _ (script : Script) (is : IsScript script) (host : HostNo) (id : Number) 
   writes-lead object first count blocks some (Err fault) ok = nothing-done
   writes-lead object first count blocks some (Ok parts) ok =
       let a : Access = access script id parts blocks in
-      let sound = found-parts object first count parts some (rows_of script.objects object) refl ok in
+      let sound = found-parts script is host id object first count parts some ok in
       let differ = rows-differ parts sound.rows_apart in
       record {
         aim = Wanted a;

@@ -1,9 +1,8 @@
 -- Along every history of one host alone, in which no bay answers Fault, no request is refused.
 use Rattle.std.proofs.Common.{◌≡◌, ◌⊎◌, inl, inr, refl, sym, ap, subst, ◌∙◌, ℕ, ◌<◌, ◌≤◌, ◌^◌, ◌==◌, ◌&&◌, Bool, true, false, List, [], ◌∷◌, find, cond, length, Option, Some, None, IfSome, arith}
-use Rattle.std.specs.List.{AllByRecursion, All}
+use Rattle.std.specs.List.{AllByRecursion}
 use Rattle.std.proofs.lemmas.Bool.Decides.{nat_tests}
 use Rattle.std.proofs.lemmas.List.{get_or-set_same, get_or-set_other}
-use Rattle.std.proofs.lemmas.List.Elements.{recursion_from_All}
 use Rattle.raid_base.specs.declared.numbers.BayNo.{BayNo}
 use Rattle.raid_base.specs.declared.numbers.HostNo.{HostNo}
 use Rattle.raid_base.specs.declared.numbers.RowNo.{RowNo}
@@ -23,7 +22,7 @@ use Rattle.slot_rules.specs.Laws.{is_refused, is_row}
 use Rattle.slot_rules.proofs.TableParts.{rule_of-row}
 use Rattle.attempts.specs.Discipline.{IsWithin}
 use Rattle.script_text.specs.Script.{Script, HostJobs, jobs_in, jobs_of}
-use Rattle.script_text.specs.Ranges.{IsScript, IsJob, IsTask}
+use Rattle.script_text.specs.Ranges.{IsScript, IsTask}
 use Rattle.script_text.specs.Weights.{total}
 use Rattle.host_engine.specs.Causes.{IsReadOrWrite}
 use Rattle.host_engine.specs.Smallness.{HasNumbers}
@@ -35,11 +34,14 @@ use Rattle.host_engine.proofs.SmallHistory.{few-or-idle, Idle, idle-history, are
 use Rattle.schedule_play.specs.RowStates.{slot_at}
 use Rattle.schedule_play.specs.Lone.{IsLoneJob, IsLone, AreFaultless, IsDoneAtOnce, LoneHostsAreDone}
 use Rattle.schedule_play.proofs.TurnLemmas.{asked-row}
-use Rattle.schedule_play.proofs.LeftBays.{bay-rows, bay-mode, host-tasks, starts, fitted}
-use Rattle.schedule_play.proofs.MissingBays.{same-bay, same-host, reply-is, own-errand}
+use Rattle.schedule_play.proofs.LeftBays.{fitted}
+use Rattle.schedule_play.proofs.MissingBays.{reply-is, own-errand}
 use Rattle.schedule_play.proofs.LoneWalks.{Use, act_of, next, used, Fine, IsOwn, is_mine}
 use Rattle.schedule_play.proofs.LoneSlots.{SlotIs, IsIdle, AreSeen, slot-serves}
 use Rattle.schedule_play.proofs.LoneHosts.{IsFine, Right, StandsAlone, start-stands, asks-row, Moves, work-stands}
+use Rattle.schedule_play.proofs.SameNumbers.{same-bay, same-host}
+use Rattle.schedule_play.proofs.HostTasks.{host-tasks}
+use Rattle.schedule_play.proofs.BayRows.{bay-rows, bay-mode, starts-first}
 
 -- Jobs
 lone-jobs : (host whose : HostNo) (jobs : List Job) → AllByRecursion (IsLoneJob host whose) jobs → (jobs ≡ []) ⊎ (whose ≡ host)
@@ -122,7 +124,7 @@ module _ (script : Script) (is : IsScript script) (host : HostNo) (few : host.0 
   all-fine : AllByRecursion (IsFine script is host few) (jobs_of script host)
   all-fine =
       fine-jobs (jobs_of script host) (own-jobs host host script.hosts lone)
-      (host-tasks script host script.hosts (recursion_from_All (λ (x : HostJobs). All (IsJob script x.host) x.jobs) script.hosts is.jobs))
+      (host-tasks script is host)
 
   abbrev slots : List Call → BayNo → RowNo → Slot
   slots history at row = slot_at script history at row
@@ -134,7 +136,7 @@ module _ (script : Script) (is : IsScript script) (host : HostNo) (few : host.0 
   -- the start
   first-idle : (at : BayNo) (row : RowNo) → row.0 < script.rows → IsIdle script.mode (number 0) (slots [] at row)
   first-idle at row below =
-      subst (IsIdle script.mode (number 0)) (sym (starts script is at row below)) (record { filled = refl; noted = refl; read = refl; numbered = none script.mode })
+      subst (IsIdle script.mode (number 0)) (sym (starts-first script at row below)) (record { filled = refl; noted = refl; read = refl; numbered = none script.mode })
     where
       none : (m : Mode) → AreSeen m (number 0) (number 0) (number 0)
       none Lock = tt
@@ -187,11 +189,11 @@ module _ (script : Script) (is : IsScript script) (host : HostNo) (few : host.0 
     well = ap is_fault (sym replied) ∙ works
 
     inside : there.0 < length (bay_at script call.bay earlier).slots
-    inside = let rows = bay-rows script is call.bay earlier in omega (arith, below, rows)
+    inside = let rows = bay-rows script call.bay earlier in omega (arith, below, rows)
 
     served : (id : Number) (state : Use) → SlotIs script.mode id state (slot_of (bay_at script call.bay earlier) there) → IsOwn script.mode id call.ask.what →
         Fine script.mode id (act_of call.ask.what) state → Served (bay_at script call.bay earlier) call.ask (is_fault call.answer.reply) there row.1 script.mode id state
-    served = serves-as (bay_at script call.bay earlier) call.ask (is_fault call.answer.reply) there row.1 script.mode (bay-mode script is call.bay earlier) well (a.devices call.bay) inside
+    served = serves-as (bay_at script call.bay earlier) call.ask (is_fault call.answer.reply) there row.1 script.mode (bay-mode script call.bay earlier) well (a.devices call.bay) inside
 
     each : (id : Number) (at : BayNo) (r : RowNo) (state : Use) → r.0 < script.rows → SlotIs script.mode id state (slots earlier at r) → IsOwn script.mode id call.ask.what →
         (is_mine script.mode id at r call.bay call.ask.what ≡ true → Fine script.mode id (act_of call.ask.what) state) →

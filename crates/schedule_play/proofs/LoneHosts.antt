@@ -40,7 +40,6 @@ use Rattle.attempts.specs.Numbering.{IsOrigin, ShowsNumber}
 use Rattle.attempts.proofs.RoomLemmas.{all-append}
 use Rattle.script_text.specs.Script.{Script, parts_of, blocks_of}
 use Rattle.script_text.specs.Ranges.{IsScript, IsTask}
-use Rattle.virtual_objects.specs.Objects.{rows_of}
 use Rattle.host_engine.specs.Plain.{task_parts}
 use Rattle.host_engine.specs.Causes.{IsReadOrWrite}
 use Rattle.host_engine.specs.Completeness.{IsDoneBy}
@@ -49,7 +48,8 @@ use Rattle.host_engine.specs.Progress.{Ending, Work, Trying, Losing, Fitting, Ov
 use Rattle.host_engine.proofs.SmallHosts.{IsNear, draws-near, sees-more}
 use Rattle.host_engine.proofs.CompleteWalks.{Plainly, Does}
 use Rattle.host_engine.proofs.CompleteHistory.{settled-plain, behind-plain, attempt-plain, without-parts}
-use Rattle.schedule_play.proofs.LeftLeaves.{found-parts, rows-differ, draw-more, settled-more}
+use Rattle.host_engine.proofs.PhasedHands.{found-parts, rows-differ}
+use Rattle.schedule_play.proofs.LeftLeaves.{draw-more, settled-more}
 use Rattle.schedule_play.proofs.LoneWalks.{Use, Untouched, act_of, used, Fine, IsOwn, is_mine, Smooth}
 use Rattle.schedule_play.proofs.LoneReads.{reads-smooth}
 use Rattle.schedule_play.proofs.LoneWrites.{writes-smooth}
@@ -137,7 +137,7 @@ module _ (script : Script) (is : IsScript script) (host : HostNo) (few : host.0 
     Begins s = Smooth script.mode id at row Untouched s
 
     differ : (object : Name) (first count : ℕ) (parts : List RowPart) → 1 ≤ count → parts_of script object first count ≡ Ok parts → RowsDiffer parts
-    differ object first count parts some ok = rows-differ parts (found-parts script is host id object first count parts some (rows_of script.objects object) refl ok).rows_apart
+    differ object first count parts some ok = rows-differ parts (found-parts script is host id object first count parts some ok).rows_apart
 
     read-smooth : (object : Name) (first count : ℕ) → 1 ≤ count → (r : Result (List RowPart) PartsFault) → parts_of script object first count ≡ r → IsOk r → Begins (read_of script id r)
     read-smooth object first count some (Ok parts) same ok = reads-smooth (access script id parts []) is.devices_least at row (differ object first count parts some same)

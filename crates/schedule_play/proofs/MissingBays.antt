@@ -1,12 +1,11 @@
 -- One bay is missing at most.
-use Rattle.std.proofs.Common.{◌≡◌, ◌⊎◌, inl, inr, ℕ, ◌<◌, ◌==◌, ◌||◌, ◌&&◌, Bool, true, false, List, [], ◌∷◌, length, Option, Some, None, is_some, refl, sym, ap, subst, ◌∙◌, arith}
+use Rattle.std.proofs.Common.{◌≡◌, ◌⊎◌, inl, inr, ℕ, ◌<◌, ◌==◌, ◌||◌, ◌&&◌, Bool, true, false, List, [], ◌∷◌, Option, Some, None, is_some, refl, sym, ap, subst, ◌∙◌, arith}
 use Rattle.std.proofs.lemmas.Bool.Decides.{nat_tests}
-use Rattle.std.proofs.lemmas.List.{get_or-replicate, length-replicate}
+use Rattle.std.proofs.lemmas.Bool.{and_parts}
 use Rattle.raid_base.specs.declared.numbers.BayNo.{BayNo}
 use Rattle.raid_base.specs.declared.numbers.HostNo.{HostNo}
 use Rattle.raid_base.specs.declared.numbers.RowNo.{RowNo}
 use Rattle.raid_base.specs.declared.numbers.Number.{Number}
-use Rattle.raid_base.specs.declared.messages.Ask.{Ask}
 use Rattle.raid_base.specs.declared.messages.Call.{Call}
 use Rattle.raid_base.specs.declared.messages.Reply.{Reply}
 use Rattle.raid_base.specs.declared.messages.Errand.{Errand}
@@ -18,37 +17,25 @@ use Rattle.raid_base.specs.declared.jobs.JobEnd.TheVariants as job_ends
 use Rattle.raid_base.specs.Numbers.{number}
 use Rattle.raid_base.specs.Replies.{is_fault}
 use Rattle.raid_base.specs.Steps.{Steps, next_errand, told, errand_of}
-use Rattle.slot_rules.specs.Slots.{Slot, Bay, bare_slot, first_slot, slot_of}
+use Rattle.slot_rules.specs.Slots.{Slot, slot_of}
 use Rattle.slot_rules.specs.Rules.{rule}
 use Rattle.slot_rules.specs.Serving.{row_of}
 use Rattle.slot_rules.specs.Laws.{is_row}
-use Rattle.slot_rules.proofs.RowSteps.{goes}
 use Rattle.attempts.specs.Taking.{Finish}
 use Rattle.attempts.specs.Mending.{is_at}
 use Rattle.script_text.specs.Script.{Script}
 use Rattle.script_text.specs.Ranges.{IsScript}
 use Rattle.host_engine.specs.declared.operator.Gone.{Gone}
-use Rattle.host_engine.specs.Progress.{Work, Trying, Losing, Fitting, Over, Progress, Sent, work_errand, sent_by, work_told, call_counted}
+use Rattle.host_engine.specs.Progress.{Work, Trying, Losing, Fitting, Over, Progress, work_errand, work_told, call_counted}
 use Rattle.host_engine.specs.History.{IsHistory, IsNext, progress_at, if_taken, bay_at, if_ruled}
+use Rattle.host_engine.proofs.Attempting.{sent-errand}
 use Rattle.schedule_play.specs.RowStates.{cell_at}
 use Rattle.schedule_play.specs.Laws.{OneIsMissing}
 use Rattle.schedule_play.proofs.MissingSlots.{is_filled, cells-stay, filled-there}
 use Rattle.schedule_play.proofs.MissingTrees.{fills, fill_of, or-either, told-mends}
 use Rattle.schedule_play.proofs.MissingHosts.{IsGone, Sound, Ready, Filled, SafeSteps, SafeWork, Safe, ended-safe, left-safe, begins-safe}
-
-pub same-bay : (a b : BayNo) → (a.0 == b.0) ≡ true → a ≡ b
-same-bay a b e = let same : a.0 ≡ b.0 = grind (arith, nat_tests) in ap (λ (k : ℕ). record { 0 = k }) same
-
-pub same-host : (a b : HostNo) → (a.0 == b.0) ≡ true → a ≡ b
-same-host a b e = let same : a.0 ≡ b.0 = grind (arith, nat_tests) in ap (λ (k : ℕ). record { 0 = k }) same
-
-same-row : (row : RowNo) (r : Option RowNo) → is_row row r ≡ true → r ≡ Some row
-same-row row None e = absurd (let bad : false ≡ true = e in cc)
-same-row row (Some r) e = let same : r.0 ≡ row.0 = grind (arith, nat_tests) in ap (λ (k : ℕ). Some (record { 0 = k })) same
-
-both : (a b : Bool) → (a && b) ≡ true → (a ≡ true) × (b ≡ true)
-both true b h = (refl, h)
-both false b h = absurd (let bad : false ≡ true = h in cc)
+use Rattle.schedule_play.proofs.SameNumbers.{same-bay, same-host, named-row}
+use Rattle.schedule_play.proofs.BayRows.{bay-rows, starts-first}
 
 -- Steps of a host, from the slots that have a cell to those that have one after its call
 module _ (script : Script) (is : IsScript script) (host : HostNo) (H K : BayNo → RowNo → Type 0) where
@@ -159,14 +146,6 @@ module _ (script : Script) (is : IsScript script) (host : HostNo) (H K : BayNo �
   asks-rows js known row (Fitting bay) e r other w asked = absurd (other w.0)
   asks-rows js known row Over e r other w asked = absurd (cc)
 
--- the errand of a request that was sent
-sent-errand : (host : HostNo) (clock moment : ℕ) (e : Option Errand) (bay : BayNo) (ask : Ask) → sent_by host clock moment e ≡ Some (record { bay = bay; ask = ask }) →
-    e ≡ Some (record { bay = bay; request = ask.what })
-sent-errand host clock moment None bay ask h = absurd (cc)
-sent-errand host clock moment (Some errand) bay ask h =
-    let same : record { bay = errand.bay; ask = record { host = host; clock = clock; moment = moment; what = errand.request } } ≡ record { bay = bay; ask = ask } = cc in
-    ap (λ (s : Sent). Some (record { bay = s.bay; request = s.ask.what })) same
-
 module _ (script : Script) (is : IsScript script) where
   -- the slot has a cell
   abbrev pub Here : List Call → BayNo → RowNo → Type 0
@@ -175,16 +154,8 @@ module _ (script : Script) (is : IsScript script) where
   abbrev Any : BayNo → RowNo → Type 0
   Any at row = Unit {0}
 
-  ruled-rows : (bay : Bay) (call : Call) (own : Bool) → length bay.slots ≡ script.rows → length (if_ruled bay call own).slots ≡ script.rows
-  ruled-rows bay call true e = (goes bay call.ask (is_fault call.answer.reply)).rows ∙ e
-  ruled-rows bay call false e = e
-
-  bay-rows : (at : BayNo) (history : List Call) → length (bay_at script at history).slots ≡ script.rows
-  bay-rows at [] = length-replicate script.rows first_slot
-  bay-rows at (call ∷ earlier) = ruled-rows (bay_at script at earlier) call (call.bay.0 == at.0) (bay-rows at earlier)
-
   starts-here : (at : BayNo) (row : RowNo) → row.0 < script.rows → Here [] at row
-  starts-here at row below = ap (λ (s : Slot). is_some s.cell) (get_or-replicate script.rows row.0 first_slot (bare_slot (number 0)) below)
+  starts-here at row below = ap (λ (s : Slot). is_some s.cell) (starts-first script at row below)
 
   module _ (earlier : List Call) (call : Call) (next : IsNext script earlier call) where
     stays : is_some (row_of call.ask.what) ≡ true → (at : BayNo) (row : RowNo) → Here earlier at row → Here (call ∷ earlier) at row
@@ -208,17 +179,17 @@ module _ (script : Script) (is : IsScript script) where
     now-filled at row below h = by (call.bay.0 == at.0) refl
       where
         first : (is_at call.bay at ≡ true) × ((is_row row (row_of call.ask.what) && is_filled call.ask.what call.answer.reply) ≡ true)
-        first = both (is_at call.bay at) (is_row row (row_of call.ask.what) && is_filled call.ask.what call.answer.reply) h
+        first = and_parts (is_at call.bay at) (is_row row (row_of call.ask.what) && is_filled call.ask.what call.answer.reply) h
 
         second : (is_row row (row_of call.ask.what) ≡ true) × (is_filled call.ask.what call.answer.reply ≡ true)
-        second = both (is_row row (row_of call.ask.what)) (is_filled call.ask.what call.answer.reply) first.1
+        second = and_parts (is_row row (row_of call.ask.what)) (is_filled call.ask.what call.answer.reply) first.1
 
         by : (b : Bool) → (call.bay.0 == at.0) ≡ b → is_some (slot_of (if_ruled (bay_at script at earlier) call b) row).cell ≡ true
         by true e =
-            let rows = bay-rows at earlier in
+            let rows = bay-rows script at earlier in
             let same : call.answer.reply ≡ (rule (bay_at script at earlier) call.ask (is_fault call.answer.reply)).reply =
             subst (λ (b : BayNo). call.answer.reply ≡ (rule (bay_at script b earlier) call.ask (is_fault call.answer.reply)).reply) (same-bay call.bay at e) reply-is in
-            filled-there (bay_at script at earlier) call.ask (is_fault call.answer.reply) call.ask.what row (same-row row (row_of call.ask.what) second.0)
+            filled-there (bay_at script at earlier) call.ask (is_fault call.answer.reply) call.ask.what row (named-row row (row_of call.ask.what) second.0)
             (omega (arith, below, rows)) (ap (λ (r : Reply). is_filled call.ask.what r) (sym same) ∙ second.1)
         by false e = absurd (let bad : false ≡ true = sym e ∙ first.0 in cc)
 

@@ -1,9 +1,8 @@
 -- What a host keeps to while it goes through its jobs: all bays but the one that is gone have all their cells, and so has
 -- that one in the rows that its rebuild has left behind.
-use Rattle.std.proofs.Common.{◌≡◌, ℕ, ◌+◌, ◌<◌, ◌==◌, ◌||◌, ◌&&◌, not, Bool, true, false, cond, List, [], ◌∷◌, drop, find, Option, Some, None, Result, Ok, Err, refl, sym, ap, subst, ◌∙◌, arith}
-use Rattle.std.specs.List.{AllByRecursion, All}
+use Rattle.std.proofs.Common.{◌≡◌, ℕ, ◌+◌, ◌<◌, ◌==◌, ◌||◌, ◌&&◌, not, Bool, true, false, List, [], ◌∷◌, drop, Option, Some, None, Result, Ok, Err, refl, sym, ap, subst, ◌∙◌, arith}
+use Rattle.std.specs.List.{AllByRecursion}
 use Rattle.std.proofs.lemmas.Bool.Decides.{nat_tests}
-use Rattle.std.proofs.lemmas.List.Elements.{recursion_from_All}
 use Rattle.raid_base.specs.declared.numbers.BayNo.{BayNo}
 use Rattle.raid_base.specs.declared.numbers.HostNo.{HostNo}
 use Rattle.raid_base.specs.declared.numbers.RowNo.{RowNo}
@@ -25,34 +24,15 @@ use Rattle.raid_base.specs.Numbers.{draw}
 use Rattle.raid_base.specs.Steps.{Steps, Asks, Draws, Ends, settled}
 use Rattle.attempts.specs.Taking.{Finish}
 use Rattle.attempts.specs.Discipline.{IsDrawn}
-use Rattle.script_text.specs.Script.{Script, HostJobs, jobs_in, jobs_of, parts_of}
-use Rattle.script_text.specs.Ranges.{IsScript, IsJob, IsTask}
+use Rattle.script_text.specs.Script.{Script, jobs_of, parts_of}
+use Rattle.script_text.specs.Ranges.{IsScript, IsTask}
 use Rattle.host_engine.specs.declared.operator.Gone.{Gone}
 use Rattle.host_engine.specs.Operator.{is_gone}
 use Rattle.host_engine.specs.Progress.{Work, Trying, Losing, Fitting, Over, Progress, with_ending, next_job, attempt, try_with, one_more, try_task, parts_end, try_parts, lose_job, fit_job, rebuild_job, start_task, start_jobs, at_start, stops, go_on, job_ended, task_of, try_again, once_more, is_spent, attempt_refused, next_row, row_mended, attempt_ended, quit_end, asks_on, steps_left}
 use Rattle.host_engine.proofs.BoundsTries.{draw-within}
 use Rattle.host_engine.proofs.BoundsTakes.{before_start}
 use Rattle.schedule_play.proofs.MissingTrees.{Mends, fill_of, settled-mends, attempt-mends}
-
--- the jobs of a host of a script are its to do
-job-tasks : (script : Script) (host : HostNo) (jobs : List Job) → AllByRecursion (IsJob script host) jobs → AllByRecursion (λ (job : Job). IsTask script host job.task) jobs
-job-tasks script host [] h = tt
-job-tasks script host (job ∷ jobs) h = (h.0.task, job-tasks script host jobs h.1)
-
-same-host : (a b : HostNo) → (a.0 == b.0) ≡ true → a ≡ b
-same-host a b e = let same : a.0 ≡ b.0 = grind (arith, nat_tests) in ap (λ (k : ℕ). record { 0 = k }) same
-
-host-tasks : (script : Script) (host : HostNo) (hosts : List HostJobs) → AllByRecursion (λ (h : HostJobs). All (IsJob script h.host) h.jobs) hosts →
-    AllByRecursion (λ (job : Job). IsTask script host job.task) (jobs_in (find (λ (h : HostJobs). h.host.0 == host.0) hosts))
-host-tasks script host [] h = tt
-host-tasks script host (first ∷ hosts) h = by (first.host.0 == host.0) refl (host-tasks script host hosts h.1)
-  where
-    by : (b : Bool) → (first.host.0 == host.0) ≡ b → AllByRecursion (λ (job : Job). IsTask script host job.task) (jobs_in (find (λ (x : HostJobs). x.host.0 == host.0) hosts)) →
-        AllByRecursion (λ (job : Job). IsTask script host job.task) (jobs_in (cond b (Some first) (find (λ (x : HostJobs). x.host.0 == host.0) hosts)))
-    by true e rest =
-        subst (λ (x : HostNo). AllByRecursion (λ (job : Job). IsTask script x job.task) first.jobs) (same-host first.host host e)
-        (job-tasks script first.host first.jobs (recursion_from_All (IsJob script first.host) first.jobs h.0))
-    by false e rest = rest
+use Rattle.schedule_play.proofs.HostTasks.{host-tasks}
 
 -- this bay is gone
 abbrev pub IsGone : BayNo → Option Gone → Type 0
@@ -311,7 +291,7 @@ module _ (script : Script) (is : IsScript script) (host : HostNo) (Here : BayNo 
   pub begins-safe : ((at : BayNo) (row : RowNo) → at.0 < script.n → row.0 < script.rows → Here at row) → Safe (at_start script host)
   begins-safe all =
       start-safe (jobs_of script host) (before_start script host) refl refl (record {
-        tasks = host-tasks script host script.hosts (recursion_from_All (λ (h : HostJobs). All (IsJob script h.host) h.jobs) script.hosts is.jobs);
+        tasks = host-tasks script is host;
         others = λ at row within below none. all at row within below;
         row = let least = is.rows_least in omega (arith, least);
       })

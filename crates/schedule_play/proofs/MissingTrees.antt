@@ -1,9 +1,6 @@
 -- An attempt asks for rows alone, and a rebuild that has mended its row has filled the slot, or has seen a cell in it.
-use Rattle.std.proofs.Common.{◌≡◌, ◌⊎◌, inl, inr, ℕ, zero, suc, ◌-◌, ◌*◌, ◌≤◌, ◌&&◌, ◌||◌, Bool, true, false, if◌then◌else◌, is_some, option_map, List, [], ◌∷◌, ◌++◌, Option, Some, None, Result, Ok, Err, refl, sym, ap, subst, ◌∙◌, arith}
-use Rattle.std.specs.Prelude.{eqb}
-use Rattle.std.specs.List.{AllByRecursion, IsDistinct}
+use Rattle.std.proofs.Common.{◌≡◌, ◌⊎◌, inl, inr, ℕ, zero, suc, ◌-◌, ◌*◌, ◌≤◌, ◌&&◌, ◌||◌, Bool, true, false, if◌then◌else◌, is_some, option_map, List, [], ◌∷◌, ◌++◌, Option, Some, None, Result, Ok, Err, refl, ap, subst, ◌∙◌, arith}
 use Rattle.std.proofs.lemmas.Bool.{eq-eqb}
-use Rattle.std.proofs.lemmas.Map.Keys.{IsDistinct-head, IsDistinct-tail}
 use Rattle.raid_base.specs.declared.numbers.BayNo.{BayNo}
 use Rattle.raid_base.specs.declared.numbers.HostNo.{HostNo}
 use Rattle.raid_base.specs.declared.numbers.RowNo.{RowNo}
@@ -29,8 +26,7 @@ use Rattle.raid_base.specs.Replies.{grant_of, is_held, is_done}
 use Rattle.raid_base.specs.Steps.{Steps, Asks, Draws, Ends, bind, go_on, next_errand, behind, settled, told, Through, Stopped, run}
 use Rattle.stripe_layout.specs.Placement.{parity_bay, parity_first}
 use Rattle.virtual_objects.specs.Objects.{rows_of, parts_found}
-use Rattle.virtual_objects.specs.Table.{numbers}
-use Rattle.virtual_objects.specs.RowParts.{ArePartsOf, part_rows}
+use Rattle.virtual_objects.specs.RowParts.{ArePartsOf}
 use Rattle.virtual_objects.proofs.JobLemmas.{are_parts}
 use Rattle.slot_rules.specs.Serving.{row_of}
 use Rattle.slot_rules.specs.Laws.{is_row}
@@ -44,7 +40,7 @@ use Rattle.attempts.specs.Mending.{is_at, is_bare, good_grant, hold_of, with_hol
 use Rattle.attempts.specs.Recovery.{recover_steps}
 use Rattle.attempts.specs.Discipline.{IsNumber, IsDrawn, IsWithin, IsRecoveryEnd, IsRecoveryFinish, Obeys}
 use Rattle.attempts.specs.Finishes.{Finishes, IsReadEnd, unit_count}
-use Rattle.attempts.specs.Phases.{Past, MayAsk, after, after_number, Keeps, begins, number_of, HasOnlyRead, WriteEnds, HasWritten, HasRepaired, HasRow, RowsDiffer}
+use Rattle.attempts.specs.Phases.{Past, MayAsk, after, after_number, Keeps, begins, number_of, HasOnlyRead, WriteEnds, HasWritten, HasRepaired, RowsDiffer}
 use Rattle.attempts.proofs.ReadFinishes.{reads_finish}
 use Rattle.attempts.proofs.RepairObeys.{recoveries_keep_bounds}
 use Rattle.attempts.proofs.ReadPhases.{reads_keep_phases}
@@ -54,6 +50,7 @@ use Rattle.script_text.specs.Script.{Script, parts_of, blocks_of}
 use Rattle.script_text.specs.Ranges.{IsScript, IsTask}
 use Rattle.host_engine.specs.Progress.{access, attempt, read_of, write_of}
 use Rattle.host_engine.proofs.BoundsTries.{draw-within}
+use Rattle.host_engine.proofs.PhasedHands.{rows-differ}
 use Rattle.schedule_play.proofs.MissingSlots.{has_cell, is_filled}
 
 -- Truth values
@@ -249,20 +246,6 @@ recovery-mends P n id most past (Draws k) h g = λ d drawn. recovery-mends P n i
 recovery-mends P n id zero past (Asks e s c k) h g = absurd g
 recovery-mends P n id (suc most) past (Asks e s c k) h g =
     (may-rows n id past e.bay e.request h.0, λ r. recovery-mends P n id most (after past e r) (k r) (h.1 r) (g.1 r))
-
--- the rows of a job differ
-row-apart : (row : RowNo) (parts : List RowPart) → AllByRecursion (λ y. eqb row.0 y ≡ false) (numbers (part_rows parts)) → HasRow row parts → ⊥
-row-apart row [] h has = has
-row-apart row (part ∷ parts) h (inl same) =
-    let own : eqb row.0 part.row.0 ≡ true = eq-eqb row.0 part.row.0 (ap (λ (r : RowNo). r.0) (sym same)) in
-    let bad : true ≡ false = sym own ∙ h.0 in
-    cc
-row-apart row (part ∷ parts) h (inr has) = row-apart row parts h.1 has
-
-rows-differ : (parts : List RowPart) → IsDistinct eqb (numbers (part_rows parts)) → RowsDiffer parts
-rows-differ [] h = tt
-rows-differ (part ∷ parts) h =
-    (row-apart part.row parts (IsDistinct-head eqb part.row.0 (numbers (part_rows parts)) h), rows-differ parts (IsDistinct-tail eqb part.row.0 (numbers (part_rows parts)) h))
 
 -- what fills the slot that a task is to mend
 abbrev pub fill_of : Task → ℕ → Errand → Reply → Bool

@@ -29,10 +29,11 @@ use Rattle.host_engine.specs.Progress.{Progress}
 use Rattle.host_engine.specs.History.{IsNext, IsHistory, progress_at, bay_at}
 use Rattle.schedule_play.specs.RowStates.{slot_at}
 use Rattle.schedule_play.specs.Holding.{UnitsAreOfWrites}
-use Rattle.schedule_play.proofs.AccessIds.{starts-first}
 use Rattle.schedule_play.proofs.SlotMoves.{SlotMove, Kept, Touched, Lost, Fitted, outcome_at, moved}
 use Rattle.schedule_play.proofs.SlotDoes.{Claims, Does, Refuses, Closes, Grants, Shows, Holds, Puts, Frees, Leaves, slot-does}
-use Rattle.schedule_play.proofs.HandClaims.{Asker, asker, asker-calls, kind_of, next-kind, next-untaken, claimed-taken, granted-claimed, put-granted}
+use Rattle.schedule_play.proofs.HandClaims.{asker-calls, kind_of, next-kind, next-untaken, claimed-taken, granted-claimed, put-granted}
+use Rattle.schedule_play.proofs.BayRows.{starts-first}
+use Rattle.schedule_play.proofs.RowOwnersHands.{Asker, asker}
 
 abbrev IsDonePut : BayNo → RowNo → Number → Call → Type 0
 IsDonePut at row id call = IsPut at row id call × IsDone call
@@ -149,12 +150,12 @@ module _ (script : Script) (is : IsScript script) (at : BayNo) (row : RowNo) (be
     anew-free : call.bay ≡ at → AnewNow → Happened (IsDonePut at row note.origin) earlier → ⊥
     anew-free place a put =
         let p : Progress = progress_at script call.ask.host earlier in
-        let by : Asker script is earlier call along next = asker script is earlier call along next row (ap row_of a.claim) in
+        let by : Asker script is earlier call = asker script is earlier call along next row (ap row_of a.claim) in
         let own : Happened (IsPut at row note.origin) p.calls =
         asker-calls script is earlier call along next (IsPut at row note.origin) note.origin (λ other is. ap id_of is.3) (ap id_of a.claim) (puts earlier put) in
-        next-untaken script is earlier call.ask.host by.steps by.before call by.asked at row (inr (place, note.origin, a.how, note.mask, a.want, a.claim))
+        next-untaken script is earlier call.ask.host by.steps by.hand call by.asked at row (inr (place, note.origin, a.how, note.mask, a.want, a.claim))
         (claimed-taken (record { bay = at; row = row }) p.calls
-        (granted-claimed (record { bay = at; row = row }) p.calls (put-granted script is call.ask.host p by.steps by.before.hand at row note.origin own)))
+        (granted-claimed (record { bay = at; row = row }) p.calls (put-granted script is call.ask.host p by.steps by.hand.hand at row note.origin own)))
       where
         puts : (history : List Call) → Happened (IsDonePut at row note.origin) history → Happened (IsPut at row note.origin) history
         puts [] h = absurd h
@@ -164,9 +165,9 @@ module _ (script : Script) (is : IsScript script) (at : BayNo) (row : RowNo) (be
     -- and where it claimed units it is a write that claimed the parity
     anew-claims : call.bay ≡ at → AnewNow → note.mask ≢ 0 → (at ≡ parity_bay script.n row) × IsWriteClaim script.n row note.origin note.mask call
     anew-claims place a some =
-        let by : Asker script is earlier call along next = asker script is earlier call along next row (ap row_of a.claim) in
-        kinds (kind_of by.before.hand.task)
-        (next-kind script is earlier call.ask.host by.steps by.before call by.asked row note.origin a.how note.mask a.want a.claim)
+        let by : Asker script is earlier call = asker script is earlier call along next row (ap row_of a.claim) in
+        kinds (kind_of by.hand.hand.task)
+        (next-kind script is earlier call.ask.host by.steps by.hand call by.asked row note.origin a.how note.mask a.want a.claim)
       where
         kinds : (kind : How) → (a.how ≡ kind) × ((note.mask ≡ 0) ⊎ ((kind ≡ Plain) × (call.bay ≡ parity_bay script.n row))) →
             (at ≡ parity_bay script.n row) × IsWriteClaim script.n row note.origin note.mask call
@@ -213,7 +214,7 @@ module _ (script : Script) (is : IsScript script) (at : BayNo) (row : RowNo) (be
     units-next (Fitted place what was slot empty life) noted = absurd (let bad : None ≡ Some note = ap (λ (s : Slot). s.note) (sym slot) ∙ noted in cc)
 
   notes-from-writes : (history : List Call) → IsHistory script history → Sound history
-  notes-from-writes [] along note noted = absurd (let bad : None ≡ Some note = ap (λ (s : Slot). s.note) (sym (starts-first script is at row below)) ∙ noted in cc)
+  notes-from-writes [] along note noted = absurd (let bad : None ≡ Some note = ap (λ (s : Slot). s.note) (sym (starts-first script at row below)) ∙ noted in cc)
   notes-from-writes (call ∷ earlier) along note noted =
       units-next earlier call along.0 along.1 (notes-from-writes earlier along.0) note (moved script is earlier call along.1 at row below) noted
 

@@ -19,7 +19,7 @@ use Rattle.raid_base.specs.Steps.{Steps, next_errand, errand_of}
 use Rattle.slot_rules.specs.Slots.{Slot}
 use Rattle.stripe_layout.specs.Placement.{parity_bay, bay_of}
 use Rattle.attempts.specs.Taking.{Finish}
-use Rattle.attempts.specs.Phases.{IsIn, MayAsk}
+use Rattle.attempts.specs.Phases.{IsIn}
 use Rattle.script_text.specs.Script.{Script}
 use Rattle.script_text.specs.Ranges.{IsScript}
 use Rattle.host_engine.specs.Calls.{Happened, row_of, id_of, read_of, IsClaim}
@@ -30,15 +30,14 @@ use Rattle.schedule_play.specs.Hands.{HasHand, calls_at}
 use Rattle.schedule_play.specs.Holding.{CameFrom}
 use Rattle.schedule_play.specs.Laws.{reads, AllBelow}
 use Rattle.schedule_play.proofs.AccessCovers.{all-map}
-use Rattle.schedule_play.proofs.AccessIds.{starts-first}
 use Rattle.schedule_play.proofs.ContentWriteFacts.{Opens, came-before}
 use Rattle.schedule_play.proofs.HandClaims.{kind_of, made-kind}
-use Rattle.schedule_play.proofs.HandMoves.{may-next, asked-id}
+use Rattle.schedule_play.proofs.HandMoves.{id-is-own}
 use Rattle.schedule_play.proofs.ReadSlots.{ReadMove, Quiet, Read, read-moved, ReadAt, read-at, CoversReads, claim-covers-reads}
-use Rattle.schedule_play.proofs.RisenDraws.{Numbered, IsNumber, Own, Drawn, numbered}
 use Rattle.schedule_play.proofs.RisingCommits.{TakesOne}
-use Rattle.schedule_play.proofs.RisingPuts.{number-above}
+use Rattle.schedule_play.proofs.RisingPuts.{number-above, id-least}
 use Rattle.schedule_play.proofs.RowOwnersHands.{Asker, asker, happened-in, happened-own}
+use Rattle.schedule_play.proofs.BayRows.{starts-first}
 
 -- a claim of the attempt, which was granted, covers the reads of the parity
 abbrev pub ParityRead : Script → RowNo → Number → List Call → List Call → Type 0
@@ -76,7 +75,7 @@ module _ (script : Script) (is : IsScript script) (row : RowNo) (below : row.0 <
 
   -- along a history
   covered-reads : (history : List Call) → IsHistory script history → (id : Number) → Has id history → ParityRead script row id history history
-  covered-reads [] along id from = absurd (subst (λ (s : Slot). CameFrom id s.note) (starts-first script is P row below) from)
+  covered-reads [] along id from = absurd (subst (λ (s : Slot). CameFrom id s.note) (starts-first script P row below) from)
   covered-reads (call ∷ earlier) along id from = by (covered-reads earlier along.0 id) (came-before script is row below earlier call along id from)
     where
       later : Has id earlier → (calls : List Call) → ParityRead script row id earlier calls → ParityRead script row id (call ∷ earlier) calls
@@ -106,24 +105,10 @@ module _ (script : Script) (is : IsScript script) (history : List Call) (host : 
   abbrev p : Progress
   p = progress_at script host history
 
-  -- which is not below the id
-  pub number-from : (call : Call) → next_errand steps ≡ Some (errand_of call) → (row : RowNo) (id n : Number) (cell : Cell) → call.ask.what ≡ Put row id n cell → h.hand.id.0 ≤ n.0
-  number-from call asked row id n cell what =
-      let may : MayAsk script.n h.hand.id x.past call.bay (Put row id n cell) =
-      subst (λ (w : Request). MayAsk script.n h.hand.id x.past call.bay w) what (may-next script.n h.hand.id x.past steps (errand_of call) x.keeps asked) in
-      by (x.number n may.2).is
-    where
-      x : Numbered script.n h.hand.id script.mode (kind_of h.hand.task) host (p).calls (record { seen = (p).seen; steps = steps })
-      x = numbered script is host p steps h.hand
-
-      by : IsNumber h.hand.id script.mode (kind_of h.hand.task) x.past (p).calls n → h.hand.id.0 ≤ n.0
-      by (Own same order plain) = let one : n.0 ≡ h.hand.id.0 = ap (λ (y : Number). y.0) same in omega (arith, one)
-      by (Drawn late above all) = omega (arith, above)
-
   pub reads-under : (call : Call) → next_errand steps ≡ Some (errand_of call) → (row : RowNo) (id n : Number) (cell : Cell) → call.ask.what ≡ Put row id n cell → (c : Call) → IsIn c (calls_at script history host) →
       (ns : List Number) (cover : CoversReads script.mode c h.hand.id ns) → (script.mode ≡ Order → kind_of h.hand.task ≡ Plain → cover.number.0 < h.hand.id.0) → AllBelow n ns
   reads-under call asked row id n cell what c i ns cover late =
-      let from = number-from call asked row id n cell what in
+      let from = id-least script is history host steps h call asked row id n cell what in
       let above = number-above script is history host steps h call asked row id n cell what c i cover.number cover.shown late in
       all-map (λ (x : Number). (x.0 ≤ cover.number.0) ⊎ (x.0 < h.hand.id.0)) (λ (x : Number). x.0 < n.0) ns (λ x low. by x low from above) cover.covers
     where
@@ -140,9 +125,7 @@ noted-reads-below script is earlier call along row below unit inside t place fro
     a = asker script is earlier call along.0 along.1 row (ap (λ (w : Request). row_of w) t.what)
 
     own : t.id ≡ a.hand.hand.id
-    own =
-        let both : Some t.id ≡ Some a.hand.hand.id = sym (ap (λ (w : Request). id_of w) t.what) ∙ asked-id script is earlier call.ask.host a.steps a.hand call a.asked in
-        cc
+    own = id-is-own script is earlier call.ask.host a.steps a.hand call a.asked t.id (ap (λ (w : Request). id_of w) t.what)
 
     Mine : Call → Type 0
     Mine c = IsClaim (parity_bay script.n row) row c × (id_of c.ask.what ≡ Some a.hand.hand.id)

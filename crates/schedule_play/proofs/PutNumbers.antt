@@ -1,7 +1,6 @@
--- The puts of an attempt in hand have one number, which is not below its id.
-use Rattle.std.proofs.Common.{◌≡◌, ℕ, ◌≤◌, List, [], ◌∷◌, Option, Some, None, Result, Ok, Err, refl, sym, ap, subst, ◌∙◌, arith}
+-- The puts of an attempt in hand have one number.
+use Rattle.std.proofs.Common.{◌≡◌, ℕ, List, [], ◌∷◌, Option, Some, None, Result, Ok, Err, refl, sym, subst, ◌∙◌}
 use Rattle.std.specs.List.{AllByRecursion}
-use Rattle.raid_base.specs.declared.numbers.BayNo.{BayNo}
 use Rattle.raid_base.specs.declared.numbers.HostNo.{HostNo}
 use Rattle.raid_base.specs.declared.numbers.RowNo.{RowNo}
 use Rattle.raid_base.specs.declared.numbers.Number.{Number}
@@ -11,11 +10,11 @@ use Rattle.raid_base.specs.declared.messages.Call.{Call}
 use Rattle.raid_base.specs.declared.messages.Errand.{Errand}
 use Rattle.raid_base.specs.declared.messages.Reply.{Reply}
 use Rattle.raid_base.specs.declared.messages.Request.{Request}
-use Rattle.raid_base.specs.declared.messages.Request.TheVariants.{Share, Claim, Confirm, Put, Release, Lose, Fit}
+use Rattle.raid_base.specs.declared.messages.Request.TheVariants.{Put}
 use Rattle.raid_base.specs.Numbers.{draw, seen_drawn, sees}
 use Rattle.raid_base.specs.Steps.{Steps, Asks, Draws, Ends, Standing, settled, told, next_errand, errand_of}
 use Rattle.attempts.specs.Taking.{Finish}
-use Rattle.attempts.specs.Phases.{Past, IsIn, after, after_asking, after_number, MayAsk, Keeps}
+use Rattle.attempts.specs.Phases.{Past, IsIn, after, after_number, MayAsk, Keeps}
 use Rattle.script_text.specs.Script.{Script}
 use Rattle.script_text.specs.Ranges.{IsScript}
 use Rattle.host_engine.specs.Hands.{Led, InHand, Phased, Any}
@@ -23,23 +22,13 @@ use Rattle.host_engine.specs.Progress.{Progress, attempt}
 use Rattle.host_engine.specs.History.{progress_at}
 use Rattle.host_engine.proofs.PhasedHands.{phased}
 use Rattle.schedule_play.specs.Hands.{HasHand, calls_at}
-use Rattle.schedule_play.proofs.HandClaims.{kind_of}
 use Rattle.schedule_play.proofs.HandMoves.{may-next}
 use Rattle.schedule_play.proofs.OwnedPuts.{all-in}
-use Rattle.schedule_play.proofs.RisenDraws.{Numbered, IsNumber, Own, Drawn, numbered}
+use Rattle.schedule_play.proofs.RisenDraws.{number-kept}
 
 -- a put of the call has this number
 abbrev PutsWith : Option Number → Call → Type 0
 PutsWith o call = (row : RowNo) (id k : Number) (cell : Cell) → call.ask.what ≡ Put row id k cell → o ≡ Some k
-
-number-kept : (past : Past) (bay : BayNo) (what : Request) (r : Reply) → (after_asking past bay what r).number ≡ past.number
-number-kept past bay (Share row by want) r = refl
-number-kept past bay (Claim row by how mask want) r = refl
-number-kept past bay (Confirm row by want) r = refl
-number-kept past bay (Put row by m cell) r = refl
-number-kept past bay (Release row by m) r = refl
-number-kept past bay Lose r = refl
-number-kept past bay Fit r = refl
 
 -- without a number there was no put
 none-with : (later : Option Number) (calls : List Call) → AllByRecursion (PutsWith None) calls → AllByRecursion (PutsWith later) calls
@@ -123,17 +112,3 @@ module _ (script : Script) (is : IsScript script) (history : List Call) (host : 
       let then_was : x.past.number ≡ Some k = all-in (PutsWith x.past.number) c (Now).calls x.alike i at by k other put in
       let both : Some k ≡ Some n = sym then_was ∙ now in
       cc
-
-  -- that is not below its id
-  pub id-least : h.hand.id.0 ≤ n.0
-  id-least = by (x.number n may.2).is
-    where
-      x : Numbered script.n h.hand.id script.mode (kind_of h.hand.task) host (Now).calls (record { seen = (Now).seen; steps = steps })
-      x = numbered script is host (Now) steps h.hand
-
-      may : MayAsk script.n h.hand.id x.past call.bay (Put row id n cell)
-      may = subst (λ (w : Request). MayAsk script.n h.hand.id x.past call.bay w) what (may-next script.n h.hand.id x.past steps (errand_of call) x.keeps asked)
-
-      by : IsNumber h.hand.id script.mode (kind_of h.hand.task) x.past (Now).calls n → h.hand.id.0 ≤ n.0
-      by (Own same order plain) = let one : n.0 ≡ h.hand.id.0 = ap (λ (y : Number). y.0) same in omega (arith, one)
-      by (Drawn late above all) = omega (arith, above)

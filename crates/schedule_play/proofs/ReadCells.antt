@@ -56,18 +56,16 @@ use Rattle.schedule_play.proofs.ReadingTrees.{IsReading, IsFreedWith, IsDoneWith
 use Rattle.schedule_play.proofs.RisenSlots.{found-reader}
 use Rattle.schedule_play.proofs.RowOwnersHands.{Asker, asker, happened-in, happened-own}
 use Rattle.schedule_play.proofs.Seeing.{reads_see_below}
-use Rattle.schedule_play.proofs.SlotDoes.{Does, Refuses, Closes, Grants, Shows, Holds, Puts, Frees, Leaves, slot-does}
+use Rattle.schedule_play.proofs.SlotDoes.{Does, slot-does}
 use Rattle.schedule_play.proofs.SlotMoves.{outcome_at}
+use Rattle.schedule_play.proofs.Risen.{up-to, Found, release-found}
+use Rattle.schedule_play.proofs.ContentWriteFacts.{late-stays}
 
 -- Lists of calls. Where a call stands in one
 split-at : (c : Call) (history : List Call) → IsIn c history → (later : List Call) × (earlier : List Call) × (later ++ c ∷ earlier ≡ history)
 split-at c [] i = absurd i
 split-at c (x ∷ xs) (inl same) = ([], xs, ap (λ (y : Call). y ∷ xs) (sym same))
 split-at c (x ∷ xs) (inr i) = let s = split-at c xs i in (x ∷ s.0, s.1, ap (λ (ys : List Call). x ∷ ys) s.2)
-
-up-to : (script : Script) (later before : List Call) → IsHistory script (later ++ before) → IsHistory script before
-up-to script [] before along = along
-up-to script (call ∷ later) before along = up-to script later before along.0
 
 in-later : (c : Call) (later : List Call) (d : Call) (earlier : List Call) → IsIn c (d ∷ earlier) → IsIn c (later ++ d ∷ earlier)
 in-later c [] d earlier i = i
@@ -79,16 +77,7 @@ freed-late [] d row id o i what = absurd i
 freed-late (call ∷ earlier) d row id o (inl same) what =
     let asks : call.ask.what ≡ Release row id o = ap (λ (c : Call). c.ask.what) same ∙ what in
     subst (λ (w : Request). 1 ≤ (after_asking (past_of earlier) call.bay w call.answer.reply).phase) (sym asks) (omega arith)
-freed-late (call ∷ earlier) d row id o (inr i) what = by call.ask.what (freed-late earlier d row id o i what)
-  where
-    by : (w : Request) → 1 ≤ (past_of earlier).phase → 1 ≤ (after_asking (past_of earlier) call.bay w call.answer.reply).phase
-    by (Share r own want) before = before
-    by (Claim r own how mask want) before = before
-    by (Confirm r own want) before = omega arith
-    by (Put r own n cell) before = omega arith
-    by (Release r own n) before = omega arith
-    by Lose before = before
-    by Fit before = before
+freed-late (call ∷ earlier) d row id o (inr i) what = late-stays (past_of earlier) call.bay call.ask.what call.answer.reply (freed-late earlier d row id o i what)
 
 -- a share that was granted is a read under stamps
 granted-read : (row : RowNo) (by : Number) (want : Bool) (reply : Reply) (grant : Grant) → grant_of reply ≡ Some grant → read_of Order (Share row by want) reply ≡ Some by
@@ -107,21 +96,11 @@ granted-read row by want Fitted grant e = absurd (let bad : None ≡ Some grant 
 -- a release that was done without a note of its id found a reader
 release-reader : (bay : Bay) (ask : Ask) (slot : Slot) (row : RowNo) (id : Number) (o : Option Number) (what : Request) (reply : Reply) (left : Slot) → Does bay ask slot what reply left →
     what ≡ Release row id o → reply ≡ Done → note_id slot.note id ≡ false → HasReader id slot
-release-reader bay ask slot row id o what reply left (Refuses r refused missing) is done free = absurd (let bad : false ≡ true = ap is_refused (sym done) ∙ refused in cc)
-release-reader bay ask slot row id o what reply left (Closes there none) is done free = absurd (cc)
-release-reader bay ask slot row id o what reply left (Grants claims) is done free = absurd (cc)
-release-reader bay ask slot row id o what reply left (Shows shares) is done free = absurd (cc)
-release-reader bay ask slot row id o what reply left (Holds own) is done free = absurd (cc)
-release-reader bay ask slot row id o what reply left (Puts own) is done free = absurd (cc)
-release-reader bay ask slot row id o what reply left (Frees {row = r} {id = by} {n = m} own) is done free =
-    let both : Release r by m ≡ Release row id o = is in
-    let same : by ≡ id = cc in
-    absurd (let bad : true ≡ false = sym (subst (λ (x : Number). note_id slot.note x ≡ true) same own) ∙ free in cc)
-release-reader bay ask slot row id o what reply left (Leaves {row = r} {id = by} {n = m} none reader found) is done free =
-    let both : Release r by m ≡ Release row id o = is in
-    let same : by ≡ id = cc in
-    let sits = found-reader by slot.readers reader found in
-    (reader, sits.0, sits.1 ∙ same)
+release-reader bay ask slot row id o what reply left step is done free = by (release-found bay ask slot row id o what reply left step is done)
+  where
+    by : Found bay ask slot id → HasReader id slot
+    by (inl own) = absurd (let bad : true ≡ false = sym own ∙ free in cc)
+    by (inr (reader, found)) = let sits = found-reader id slot.readers reader found in (reader, sits.0, sits.1)
 
 module _ (script : Script) (is : IsScript script) where
   -- a call asks what a bay of the array may take

@@ -1,7 +1,6 @@
 -- Reads of a slot: what a call adds to them, how the slot stands at a read, and which calls are shown numbers that cover them.
 use Rattle.std.proofs.Common.{◌≡◌, ◌⊎◌, inl, inr, refl, sym, ap, subst, ◌∙◌, ℕ, ◌<◌, ◌≤◌, ◌==◌, Bool, true, false, if◌then◌else◌, IsSome, List, [], ◌∷◌, Option, Some, None, is_some, arith}
 use Rattle.std.specs.List.{AllByRecursion}
-use Rattle.std.proofs.lemmas.Bool.Decides.{nat_tests}
 use Rattle.raid_base.specs.declared.numbers.HostNo.{HostNo}
 use Rattle.raid_base.specs.declared.numbers.BayNo.{BayNo}
 use Rattle.raid_base.specs.declared.numbers.RowNo.{RowNo}
@@ -23,9 +22,8 @@ use Rattle.raid_base.specs.Replies.{is_fault, grant_of}
 use Rattle.raid_base.specs.Steps.{Steps, next_errand, errand_of}
 use Rattle.slot_rules.specs.declared.Reader.{Reader}
 use Rattle.slot_rules.specs.Slots.{Slot, Bay, slot_of}
-use Rattle.slot_rules.specs.Rules.{Outcome, wanted_cell, note_id}
+use Rattle.slot_rules.specs.Rules.{wanted_cell, note_id}
 use Rattle.slot_rules.specs.Laws.{CoversRead}
-use Rattle.slot_rules.proofs.TableParts.{rule_of-row}
 use Rattle.attempts.specs.Numbering.{ShowsNumber}
 use Rattle.attempts.specs.Phases.{IsIn}
 use Rattle.attempts.specs.Taking.{Finish}
@@ -39,37 +37,30 @@ use Rattle.schedule_play.specs.RowStates.{slot_at, cell_at}
 use Rattle.schedule_play.specs.Hands.{HasHand, calls_at}
 use Rattle.schedule_play.specs.Laws.{with_some, reads, AtMost}
 use Rattle.schedule_play.proofs.AccessCovers.{all-map, lock-read, free-hand, covers-all}
-use Rattle.schedule_play.proofs.AccessIds.{same-bay, starts-first, all-apart, asker-few, asked-errand, notes-claimed}
+use Rattle.schedule_play.proofs.AccessIds.{all-apart, asker-few, asked-errand, notes-claimed}
 use Rattle.schedule_play.proofs.AnsweredFree.{happened-map}
-use Rattle.schedule_play.proofs.AnsweredFreeNotes.{refused-grants}
 use Rattle.schedule_play.proofs.CoveredPutsSlots.{IsMaskClaim, origin-claimed}
 use Rattle.schedule_play.proofs.HandClaims.{IsTake, made-one, next-new}
 use Rattle.schedule_play.proofs.HandMoves.{asked-id}
-use Rattle.schedule_play.proofs.LeftBays.{bay-mode}
 use Rattle.schedule_play.proofs.LeftSlots.{HasReader}
 use Rattle.schedule_play.proofs.ReadFloors.{rule-floor, floor-gone}
 use Rattle.schedule_play.proofs.ReadShares.{shares-want}
-use Rattle.schedule_play.proofs.Risen.{shown-as, Found, release-found}
+use Rattle.schedule_play.proofs.Risen.{shown-as, Found, release-found, reply-is, does}
 use Rattle.schedule_play.proofs.RisenHands.{below-from}
 use Rattle.schedule_play.proofs.RisenSlots.{Clear, clear-at, found-reader, ReaderMove, Sat, Came, reader-moved}
 use Rattle.schedule_play.proofs.RisingClaims.{both-true}
 use Rattle.schedule_play.proofs.RowOwnersCalls.{noted-by}
 use Rattle.schedule_play.proofs.RowOwnersHands.{Asker, asker, happened-in, happened-own}
-use Rattle.schedule_play.proofs.SlotDoes.{IsGone, Shares, Does, Refuses, Closes, Grants, Shows, Holds, Puts, Frees, Leaves, slot-does}
+use Rattle.schedule_play.proofs.SlotDoes.{IsGone, Shares, Does, Refuses, Closes, Grants, Shows, Holds, Puts, Frees, Leaves, slot-does, claim-does, Claims, share-does}
 use Rattle.schedule_play.proofs.SlotMoves.{SlotMove, Kept, Touched, Lost, Fitted, outcome_at, moved}
+use Rattle.schedule_play.proofs.SameNumbers.{same-bay, named-row}
+use Rattle.schedule_play.proofs.BayRows.{starts-first, bay-mode}
 
 -- Reads of a slot after a call: those before it, or one more
 pub data ReadMove (script : Script) (at : BayNo) (row : RowNo) (call : Call) (earlier : List Call) : Type 0 where
   Quiet : (same : reads script at row (call ∷ earlier) ≡ reads script at row earlier) → ReadMove script at row call earlier
   Read : (place : call.bay ≡ at) (of : row_of call.ask.what ≡ Some row) (n : Number) (is : read_of script.mode call.ask.what call.answer.reply ≡ Some n)
       (now : reads script at row (call ∷ earlier) ≡ n ∷ reads script at row earlier) → ReadMove script at row call earlier
-
-named-row : (row : RowNo) (o : Option RowNo) → is_row row o ≡ true → o ≡ Some row
-named-row row None e = absurd (let bad : false ≡ true = e in cc)
-named-row row (Some r) e =
-    let test : (r.0 == row.0) ≡ true = e in
-    let same : r.0 ≡ row.0 = grind (arith, nat_tests) in
-    ap (λ (k : ℕ). let x : RowNo = record { 0 = k } in Some x) same
 
 pub read-moved : (script : Script) (at : BayNo) (row : RowNo) (call : Call) (earlier : List Call) → ReadMove script at row call earlier
 read-moved script at row call earlier = by (is_at at row call) refl (read_of script.mode call.ask.what call.answer.reply) refl
@@ -113,46 +104,21 @@ read-by Lock Fit reply n e = absurd (let bad : None ≡ Some n = e in cc)
 
 -- What the slot rule did
 module _ (bay : Bay) (ask : Ask) (slot : Slot) where
-  -- a share that was granted
-  share-does : (row : RowNo) (id : Number) (want : Bool) (what : Request) (reply : Reply) (left : Slot) → Does bay ask slot what reply left → what ≡ Share row id want → IsSome (grant_of reply) →
-      Shares bay slot id want reply left
-  share-does row id want what reply left (Refuses r refused missing) is some = refused-grants r refused some
-  share-does row id want what reply left (Closes there none) is some = absurd (cc)
-  share-does row id want what reply left (Grants claims) is some = absurd (cc)
-  share-does row id want what reply left (Shows {row = r} {id = by} {want = w} shares) is some =
-      let both : Share r by w ≡ Share row id want = is in
-      let one : by ≡ id = cc in
-      let same : w ≡ want = cc in
-      subst (λ (x : Number). Shares bay slot x want reply left) one (subst (λ (x : Bool). Shares bay slot by x reply left) same shares)
-  share-does row id want what reply left (Holds own) is some = absurd (cc)
-  share-does row id want what reply left (Puts own) is some = absurd (cc)
-  share-does row id want what reply left (Frees own) is some = absurd (cc)
-  share-does row id want what reply left (Leaves free reader found) is some = absurd (cc)
-
   -- a claim that was granted
   record Claiming (id : Number) (how : How) (reply : Reply) : Type 0 where
     there : bay.empty ≡ false
     shown : ShowsNumber reply slot.read_no
     late : how ≡ Plain → bay.mode ≡ Order → slot.read_no.0 < id.0
 
-  claim-does : (row : RowNo) (id : Number) (how : How) (mask : ℕ) (want : Bool) (what : Request) (reply : Reply) (left : Slot) → Does bay ask slot what reply left → what ≡ Claim row id how mask want →
+  claim-tells : (row : RowNo) (id : Number) (how : How) (mask : ℕ) (want : Bool) (what : Request) (reply : Reply) (left : Slot) → Does bay ask slot what reply left → what ≡ Claim row id how mask want →
       IsSome (grant_of reply) → Claiming id how reply
-  claim-does row id how mask want what reply left (Refuses r refused missing) is some = refused-grants r refused some
-  claim-does row id how mask want what reply left (Closes there none) is some = absurd (let bad : false ≡ true = some in cc)
-  claim-does row id how mask want what reply left (Grants {row = r} {id = by} {how = h} {mask = m} {want = w} claims) is some =
-      let both : Claim r by h m w ≡ Claim row id how mask want = is in
-      let one : by ≡ id = cc in
-      let kind : h ≡ how = cc in
+  claim-tells row id how mask want what reply left step is some =
+      let claims : Claims bay ask slot id how mask want reply left = claim-does bay ask slot row id how mask want what reply left step is some in
       record {
         there = claims.there;
         shown = subst (λ (x : Reply). ShowsNumber x slot.read_no) (sym claims.reply) (inl refl);
-        late = λ plain order. (let above = claims.late (kind ∙ plain) order in let same : by.0 ≡ id.0 = ap (λ (x : Number). x.0) one in omega (arith, above, same));
+        late = λ plain order. (let above = claims.late plain order in omega (arith, above));
       }
-  claim-does row id how mask want what reply left (Shows shares) is some = absurd (cc)
-  claim-does row id how mask want what reply left (Holds own) is some = absurd (cc)
-  claim-does row id how mask want what reply left (Puts own) is some = absurd (cc)
-  claim-does row id how mask want what reply left (Frees own) is some = absurd (cc)
-  claim-does row id how mask want what reply left (Leaves free reader found) is some = absurd (cc)
 
 -- a reader is none of an empty list
 in-none : (x : Reader) (xs : List Reader) → xs ≡ [] → IsIn x xs → ⊥
@@ -189,17 +155,11 @@ module _ (script : Script) (is : IsScript script) (earlier : List Call) (call : 
   abbrev slot : Slot
   slot = slot_of bay row
 
-  reply-is : call.answer.reply ≡ (outcome_at bay row call).reply
-  reply-is = ap (λ (c : Call). c.answer.reply) along.1.replied ∙ ap (λ (x : Outcome). x.reply) (rule_of-row bay call.ask (is_fault call.answer.reply) call.ask.what row of)
-
-  does : Does bay call.ask slot call.ask.what (outcome_at bay row call).reply (outcome_at bay row call).slot
-  does = slot-does bay call.ask slot (is_fault call.answer.reply) call.ask.what row of
-
   share-granted : (r : RowNo) (id : Number) (want : Bool) → call.ask.what ≡ Share r id want → IsSome (grant_of call.answer.reply) →
       Shares bay slot id want (outcome_at bay row call).reply (outcome_at bay row call).slot
   share-granted r id want what some =
-      share-does bay call.ask slot r id want call.ask.what (outcome_at bay row call).reply (outcome_at bay row call).slot does what
-      (subst (λ (x : Reply). IsSome (grant_of x)) reply-is some)
+      share-does bay call.ask slot r id want call.ask.what (outcome_at bay row call).reply (outcome_at bay row call).slot (does script is earlier call along row of) what
+      (subst (λ (x : Reply). IsSome (grant_of x)) (reply-is script is earlier call along row of) some)
 
 -- a share of this slot with this id, which was shown this cell where it wanted one
 abbrev IsShowing : BayNo → RowNo → Number → Cell → Call → Type 0
@@ -214,7 +174,7 @@ module _ (script : Script) (is : IsScript script) (at : BayNo) (row : RowNo) (be
     shown : Happened (IsShowing at row id cell) history
 
   reader-stands : (history : List Call) → IsHistory script history → (id : Number) → HasReader id (slot_at script history at row) → ReaderCell history id
-  reader-stands [] along id has = absurd (subst (λ (s : Slot). HasReader id s) (starts-first script is at row below) has).1
+  reader-stands [] along id has = absurd (subst (λ (s : Slot). HasReader id s) (starts-first script at row below) has).1
   reader-stands (call ∷ earlier) along id has = by (λ was. reader-stands earlier along.0 id was) (reader-moved script is at row below earlier call along id has)
     where
       stays : cell_at script (call ∷ earlier) row at ≡ cell_at script earlier row at
@@ -260,7 +220,7 @@ module _ (script : Script) (is : IsScript script) (at : BayNo) (row : RowNo) (be
       absurd (let has : cell_at script earlier row at ≡ Some c.cell = c.now in let bad : None ≡ Some c.cell = sym none ∙ has in cc)
 
   low-bare : (history : List Call) → IsHistory script history → Low (slot_at script history at row)
-  low-bare [] along = subst (λ (s : Slot). Low s) (sym (starts-first script is at row below)) (λ none. absurd (cc))
+  low-bare [] along = subst (λ (s : Slot). Low s) (sym (starts-first script at row below)) (λ none. absurd (cc))
   low-bare (call ∷ earlier) along = by (low-bare earlier along.0) (moved script is earlier call along.1 at row below)
     where
       by : Low (slot_at script earlier at row) → SlotMove (bay_at script at earlier) at row call (bay_at script at (call ∷ earlier)) → Low (slot_at script (call ∷ earlier) at row)
@@ -447,7 +407,7 @@ module _ (script : Script) (is : IsScript script) (earlier : List Call) (call : 
   claim-covered id how mask want what some k =
       let c : Claiming here_bay call.ask here id how call.answer.reply =
       subst (λ (r : Reply). Claiming here_bay call.ask here id how r) (sym (reply-is script is earlier call along row of))
-      (claim-does here_bay call.ask here row id how mask want call.ask.what (outcome_at here_bay row call).reply (outcome_at here_bay row call).slot (does script is earlier call along row of) what
+      (claim-tells here_bay call.ask here row id how mask want call.ask.what (outcome_at here_bay row call).reply (outcome_at here_bay row call).slot (does script is earlier call along row of) what
       (subst (λ (r : Reply). IsSome (grant_of r)) (reply-is script is earlier call along row of) some)) in
       record {
         number = here.read_no;
@@ -458,7 +418,7 @@ module _ (script : Script) (is : IsScript script) (earlier : List Call) (call : 
             let kind : how ≡ Plain = cc in
             let one : id ≡ by = cc in
             let same : id.0 ≡ by.0 = ap (λ (x : Number). x.0) one in
-            let above = c.late kind (bay-mode script is call.bay earlier ∙ order) in
+            let above = c.late kind (bay-mode script call.bay earlier ∙ order) in
             omega (arith, above, same));
       }
 

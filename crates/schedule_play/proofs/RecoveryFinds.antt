@@ -1,6 +1,6 @@
 -- What a recovery has found where it gives back a parity whose note it seized: every unit answered, and the row is not torn. After
 -- a put it gives back the data alone, and where it is refused it keeps a parity whose note it seized.
-use Rattle.std.proofs.Common.{arith, ◌≡◌, ◌⊎◌, inl, inr, refl, sym, ap, subst, ◌∙◌, ℕ, zero, suc, ◌+◌, ◌-◌, ◌<◌, ◌≤◌, ◌==◌, not, ◌&&◌, ◌||◌, Bool, true, false, if◌then◌else◌, List, [], ◌∷◌, ◌++◌, zip, Option, Some, None, option_map, is_some, Result, Ok, Err}
+use Rattle.std.proofs.Common.{arith, ◌≡◌, ◌⊎◌, inl, inr, refl, sym, ap, subst, ◌∙◌, ℕ, zero, suc, ◌+◌, ◌-◌, ◌<◌, ◌≤◌, ◌==◌, not, ◌&&◌, ◌||◌, Bool, true, false, if◌then◌else◌, List, [], ◌∷◌, ◌++◌, zip, Option, Some, None, option_map, Result, Ok, Err}
 use Rattle.std.specs.List.{AllByRecursion, range_with_len}
 use Rattle.std.proofs.lemmas.Bool.Decides.{nat_tests}
 use Rattle.raid_base.specs.declared.numbers.BayNo.{BayNo}
@@ -24,7 +24,7 @@ use Rattle.raid_base.specs.Cells.{has_unit}
 use Rattle.raid_base.specs.Fits.{fits, fits_claim}
 use Rattle.raid_base.specs.Replies.{grant_of}
 use Rattle.raid_base.specs.declared.numbers.HostNo.{HostNo}
-use Rattle.raid_base.specs.Steps.{Standing, settled, next_errand, Steps, Asks, Draws, Ends, Commit, bind, go_on, Walk, Through, Stopped, Phase, run, errand_of}
+use Rattle.raid_base.specs.Steps.{Standing, settled, next_errand, Steps, Asks, Draws, Ends, Commit, bind, Walk, Through, Stopped, run, errand_of}
 use Rattle.stripe_layout.specs.Placement.{bay, parity_bay, bay_of, bays_of, units}
 use Rattle.stripe_layout.proofs.LayoutLemmas.{unit_distinct}
 use Rattle.attempts.specs.declared.Rescue.{Rescue}
@@ -40,7 +40,7 @@ use Rattle.attempts.proofs.SoundLemmas.{units-all}
 use Rattle.host_engine.specs.Calls.{Happened, IsClaim}
 use Rattle.host_engine.specs.Torn.{Seizes, ShowsLast, IsMissing}
 use Rattle.host_engine.specs.Hands.{Led}
-use Rattle.schedule_play.proofs.RowOwnersTrees.{Asking, next-asking, settled-asking, led-asking, ShowsParity, AreAnswered, MayFree, RecoverAsks, recoveries-ask}
+use Rattle.schedule_play.proofs.RowOwnersTrees.{Asking, next-asking, settled-asking, led-asking, ShowsParity, AreAnswered, MayFree, RecoverAsks, recoveries-ask, refuses-grant, walk-asking, not-seized, what-is, bay-is}
 
 -- the calls claimed the parity and seized this note
 abbrev pub HasSeized : ℕ → RowNo → Note → List Call → Type 0
@@ -61,50 +61,6 @@ FoundSound n row note calls = (note.mask ≡ 0) ⊎ (NoneMissing n row note call
 -- before it gives back a parity whose note it seized
 abbrev pub FreesSound : Rescue → List Call → Errand → Type 0
 FreesSound r calls e = (row : RowNo) (id : Number) (n : Option Number) → e.request ≡ Release row id n → e.bay ≡ parity_bay r.n r.row → (note : Note) → HasSeized r.n r.row note calls → FoundSound r.n r.row note calls
-
--- a walk goes on or stops
-go-asking : {A B : Type 0} (P : List Call → Errand → Type 0) (calls : List Call) (o : Option A) (g : A → Steps (Walk A)) (s : Steps (Walk A)) (f : Walk A → Steps B) →
-    ((a : A) → o ≡ Some a → Asking P calls (bind (g a) f)) → (o ≡ None → Asking P calls (bind s f)) → Asking P calls (bind (go_on o g s) f)
-go-asking P calls (Some a) g s f on off = on a refl
-go-asking P calls None g s f on off = off refl
-
-walk-asking : {A B : Type 0} (P : List Call → Errand → Type 0) (phase : Phase A) (f : Walk A → Steps B) (e : Errand) (es : List Errand) (a : A) (calls : List Call) → P calls e →
-    ((call : Call) → errand_of call ≡ e → fits call.ask.what call.answer.reply ≡ true → (b : A) → phase.step a e call.answer.reply ≡ Some b → Asking P (call ∷ calls) (bind (run phase es b) f)) →
-    ((call : Call) → errand_of call ≡ e → fits call.ask.what call.answer.reply ≡ true → phase.step a e call.answer.reply ≡ None → Asking P (call ∷ calls) (f (Stopped a e call.answer.reply))) →
-    Asking P calls (bind (run phase (e ∷ es) a) f)
-walk-asking P phase f e es a calls may on off = (
-  may,
-  λ call is fit. go-asking P (call ∷ calls) (phase.step a e call.answer.reply) (λ b. run phase es b) (Ends (Stopped a e call.answer.reply)) f (on call is fit) (off call is fit),
-)
-
--- the same request, and bay
-pub what-is : (call : Call) (e : Errand) → errand_of call ≡ e → call.ask.what ≡ e.request
-what-is call e is = ap (λ (x : Errand). x.request) is
-
-pub bay-is : (call : Call) (e : Errand) → errand_of call ≡ e → call.bay ≡ e.bay
-bay-is call e is = ap (λ (x : Errand). x.bay) is
-
--- Replies. A claim that refuses wasn't granted
-refuses-grant : (missing : Option BayNo) (bay : BayNo) (reply : Reply) (keep : Option Grant → Taken) (grant : Grant) → option_map keep (unless (refusal None missing bay reply) (grant_of reply)) ≡ None →
-    grant_of reply ≡ Some grant → ⊥
-refuses-grant missing bay (Granted cell read_no write_no last life seized) keep grant e is = absurd (cc)
-refuses-grant missing bay (Missing floor) keep grant e is = absurd (cc)
-refuses-grant missing bay (Busy holder) keep grant e is = absurd (cc)
-refuses-grant missing bay (Late above) keep grant e is = absurd (cc)
-refuses-grant missing bay (Young note) keep grant e is = absurd (cc)
-refuses-grant missing bay (Held cell) keep grant e is = absurd (cc)
-refuses-grant missing bay (NoNote life) keep grant e is = absurd (cc)
-refuses-grant missing bay Done keep grant e is = absurd (cc)
-refuses-grant missing bay Fault keep grant e is = absurd (cc)
-refuses-grant missing bay Emptied keep grant e is = absurd (cc)
-refuses-grant missing bay Fitted keep grant e is = absurd (cc)
-
-not-seized : (grant : Grant) → is_seized grant ≡ false → grant.seized ≡ None
-not-seized grant e = by grant.seized e
-  where
-    by : (o : Option Note) → is_some o ≡ false → o ≡ None
-    by None e = refl
-    by (Some note) e = absurd (cc)
 
 -- a second bay is not missing
 

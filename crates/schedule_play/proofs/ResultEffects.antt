@@ -1,16 +1,11 @@
 -- What an attempt of a task has committed by its end, what its host has seen by its number, and what commits give to units.
-use Rattle.std.proofs.Common.{◌≡◌, inl, inr, refl, sym, ap, subst, ◌∙◌, ℕ, ◌+◌, ◌<◌, ◌≤◌, ◌==◌, ◌&&◌, Bool, true, false, if◌then◌else◌, List, [], ◌∷◌, Option, Some, None, Result, Ok, Err, arith}
+use Rattle.std.proofs.Common.{◌≡◌, inl, inr, refl, ap, subst, ℕ, ◌≤◌, ◌==◌, ◌&&◌, Bool, true, false, if◌then◌else◌, List, [], ◌∷◌, Option, Some, None, Result, Ok, Err}
 use Rattle.std.specs.Prelude.{IsOk}
 use Rattle.std.proofs.lemmas.Bool.{eq-eqb}
 use Rattle.raid_base.specs.declared.numbers.HostNo.{HostNo}
 use Rattle.raid_base.specs.declared.numbers.RowNo.{RowNo}
 use Rattle.raid_base.specs.declared.numbers.Number.{Number}
 use Rattle.raid_base.specs.declared.names.Name.{Name}
-use Rattle.raid_base.specs.declared.messages.Call.{Call}
-use Rattle.raid_base.specs.declared.messages.Errand.{Errand}
-use Rattle.raid_base.specs.declared.messages.How.{How}
-use Rattle.raid_base.specs.declared.messages.Mode.{Mode}
-use Rattle.raid_base.specs.declared.messages.Reply.{Reply}
 use Rattle.raid_base.specs.declared.jobs.Cause.{Cause}
 use Rattle.raid_base.specs.declared.jobs.Ended.{Ended}
 use Rattle.raid_base.specs.declared.jobs.Ended.TheVariants as ends
@@ -18,9 +13,8 @@ use Rattle.raid_base.specs.declared.jobs.RowPart.{RowPart}
 use Rattle.raid_base.specs.declared.jobs.PartsFault.{PartsFault}
 use Rattle.raid_base.specs.declared.jobs.Task.{Task}
 use Rattle.raid_base.specs.declared.jobs.Task.TheVariants as tasks
-use Rattle.raid_base.specs.Fits.{fits}
-use Rattle.raid_base.specs.Numbers.{draw, seen_drawn, sees}
-use Rattle.raid_base.specs.Steps.{Commit, Steps, Asks, Draws, Ends, settled, errand_of}
+use Rattle.raid_base.specs.Numbers.{draw, seen_drawn}
+use Rattle.raid_base.specs.Steps.{Commit, Steps, Asks, Draws, Ends, settled}
 use Rattle.attempts.specs.declared.Repair.{Repair}
 use Rattle.attempts.specs.declared.Rescue.{Rescue}
 use Rattle.attempts.specs.Taking.{Access, Finish}
@@ -28,23 +22,17 @@ use Rattle.attempts.specs.Reading.{read_steps}
 use Rattle.attempts.specs.Writing.{write_steps}
 use Rattle.attempts.specs.Mending.{mend_steps}
 use Rattle.attempts.specs.Recovery.{recover_steps}
-use Rattle.attempts.specs.Phases.{IsIn, MayAsk, Keeps, after}
+use Rattle.attempts.specs.Phases.{IsIn}
 use Rattle.script_text.specs.Script.{Script, parts_of, blocks_of}
 use Rattle.script_text.specs.Ranges.{IsScript, IsTask}
 use Rattle.host_engine.specs.Plain.{IsTried}
 use Rattle.host_engine.specs.Progress.{access, attempt, read_of, write_of}
-use Rattle.host_engine.specs.Hands.{Any}
 use Rattle.host_engine.proofs.PhasedHands.{found-parts}
 use Rattle.schedule_play.specs.Effects.{done_after, Effecting, HasWrittenSo, RecoveryTells, CommitsNothing}
 use Rattle.schedule_play.specs.Laws.{is_of}
 use Rattle.schedule_play.specs.Rising.{Taken, taken_by}
 use Rattle.schedule_play.specs.Told.{TaskTells}
-use Rattle.schedule_play.proofs.AccessHosts.{reply-covers}
 use Rattle.schedule_play.proofs.EffectsLaws.{attempts_tell_commits}
-use Rattle.schedule_play.proofs.HandMoves.{may-next}
-use Rattle.schedule_play.proofs.RisenTrees.{Frees}
-use Rattle.schedule_play.proofs.NumberTrees.{TellsNumber}
-use Rattle.schedule_play.proofs.RisenDraws.{IsNumber, Own, Drawn, Numbered, shown-more, shown-seen, number-kept, told-number}
 
 -- What follows from what is committed
 effecting-map : (P Q : List Commit → Ended → Type 0) → ((done : List Commit) (ended : Ended) → P done ended → Q done ended) → (done : List Commit) (s : Steps Finish) →
@@ -103,33 +91,6 @@ module _ (script : Script) (is : IsScript script) (host : HostNo) (id : Number) 
   mended-nothing (tasks.Rebuild bay) done h = h
   mended-nothing (tasks.Lose bay) done h = h
   mended-nothing (tasks.Fit bay) done h = h
-
--- Numbers. That of an attempt is not below its id
-pub number-least : {id : Number} {mode : Mode} {kind : How} {past : _} {calls : List Call} {m : Number} → IsNumber id mode kind past calls m → id.0 ≤ m.0
-number-least (Own is order plain) = let same = ap (λ (x : Number). x.0) is in omega (arith, same)
-number-least (Drawn late above shown) = omega (arith, above)
-
--- a reply leaves the number as it is
-module _ (n : ℕ) (id : Number) (mode : Mode) (kind : How) (host : HostNo) (few : host.0 < 16) where
-  pub told-stands : (calls : List Call) (seen : Number) (call : Call) (e : Errand) (stop : Ended) (commits : List Commit) (k : Reply → Steps Finish) →
-      (h : Numbered n id mode kind host calls (record { seen = seen; steps = Asks e stop commits k })) → e ≡ errand_of call → fits call.ask.what call.answer.reply ≡ true →
-      (x : Numbered n id mode kind host (call ∷ calls) (record { seen = sees seen call.answer.reply; steps = k call.answer.reply })) × (x.past.number ≡ h.past.number)
-  told-stands calls seen call e stop commits k h is fit =
-      let r : Reply = call.answer.reply in
-      let may : MayAsk n id h.past call.bay call.ask.what = may-next n id h.past (Asks e stop commits k) (errand_of call) h.keeps (ap (λ (x : Errand). Some x) is) in
-      let more : seen.0 ≤ (sees seen r).0 = reply-covers seen r in
-      let low : id.0 ≤ seen.0 = h.low in (
-        record {
-          past = after h.past (errand_of call) r;
-          keeps = subst (λ (x : Errand). Keeps n id Any (after h.past x r) (k r)) is (h.keeps.1 r);
-          frees = subst (λ (o : Option Number). Frees o (k r)) (sym (number-kept h.past call.bay call.ask.what r)) (h.frees.1 r);
-          tells = subst (λ (o : Option Number). TellsNumber o (k r)) (sym (number-kept h.past call.bay call.ask.what r)) (h.tells.1 r);
-          low = omega (arith, more, low);
-          shown = (λ j s. let le = shown-seen seen r j s in omega (arith, le), shown-more (seen.0 + 1) ((sees seen r).0 + 1) (omega (arith, more)) calls h.shown);
-          number = λ m has. told-number n id mode kind host few calls seen call h.past may fit m (h.number m (sym (number-kept h.past call.bay call.ask.what r) ∙ has));
-        },
-        number-kept h.past call.bay call.ask.what r,
-      )
 
 -- Contents that units have taken stay
 pub taken-stays : (row : RowNo) (unit : ℕ) (o : Option Number) (commits : List Commit) (takens : List Taken) (t : Taken) → IsIn t takens → IsIn t (taken_by row unit o commits takens)

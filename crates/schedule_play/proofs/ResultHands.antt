@@ -43,8 +43,8 @@ use Rattle.schedule_play.specs.Rising.{Taken}
 use Rattle.schedule_play.specs.Told.{TaskTells}
 use Rattle.schedule_play.proofs.HandClaims.{kind_of}
 use Rattle.schedule_play.proofs.NumberTrees as trees
-use Rattle.schedule_play.proofs.RisenDraws.{HasNumber, Numbered, draws-numbered, attempt-numbered}
-use Rattle.schedule_play.proofs.ResultEffects.{settled-effecting, attempt-effecting, refused-nothing, mended-nothing, number-least}
+use Rattle.schedule_play.proofs.RisenDraws.{HasNumber, Numbered, draws-numbered, attempt-numbered, number-least}
+use Rattle.schedule_play.proofs.ResultEffects.{settled-effecting, attempt-effecting, refused-nothing, mended-nothing}
 
 -- What is known of a host, where its jobs and those of others have taken so much
 module _ (script : Script) (host : HostNo) (took : RowNo → ℕ → List Taken) where

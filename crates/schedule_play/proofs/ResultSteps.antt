@@ -1,8 +1,6 @@
 -- What the results of a host tell, and what its attempt in hand has committed: kept by each call of a history.
 use Rattle.std.proofs.Common.{◌≡◌, ◌⊎◌, inl, inr, refl, sym, ap, subst, ◌∙◌, ℕ, ◌+◌, ◌%◌, ◌<◌, ◌≤◌, ◌==◌, Bool, true, false, if◌then◌else◌, List, [], ◌∷◌, ◌++◌, Option, Some, None, arith}
 use Rattle.std.proofs.lemmas.Bool.Decides.{nat_tests}
-use Rattle.std.proofs.lemmas.List.Elements.{recursion_from_All}
-use Rattle.std.specs.Prelude.{All}
 use Rattle.raid_base.specs.declared.numbers.HostNo.{HostNo}
 use Rattle.raid_base.specs.declared.numbers.RowNo.{RowNo}
 use Rattle.raid_base.specs.declared.numbers.Number.{Number}
@@ -23,8 +21,8 @@ use Rattle.slot_rules.specs.Laws.{put_number}
 use Rattle.attempts.specs.Taking.{Finish}
 use Rattle.attempts.specs.Phases.{IsIn, MayAsk}
 use Rattle.attempts.proofs.ReturnLemmas.{in-left, in-right, in-either}
-use Rattle.script_text.specs.Script.{Script, HostJobs, jobs_of}
-use Rattle.script_text.specs.Ranges.{IsScript, IsJob}
+use Rattle.script_text.specs.Script.{Script, jobs_of}
+use Rattle.script_text.specs.Ranges.{IsScript}
 use Rattle.host_engine.specs.Progress.{Ending, Work, Trying, Losing, Fitting, Over, Progress, work_told, call_counted, takes, work_errand}
 use Rattle.host_engine.specs.History.{if_taken, progress_at, IsHistory}
 use Rattle.host_engine.proofs.BoundsTakes.{before_start}
@@ -37,15 +35,15 @@ use Rattle.schedule_play.specs.Rising.{Taken, put_no, taken_by, taken_at}
 use Rattle.schedule_play.proofs.AccessHosts.{reply-covers}
 use Rattle.schedule_play.proofs.HandClaims.{kind_of}
 use Rattle.schedule_play.proofs.HandMoves.{may-next}
-use Rattle.schedule_play.proofs.LeftBays.{host-tasks}
-use Rattle.schedule_play.proofs.MissingBays.{same-host}
 use Rattle.schedule_play.proofs.OwnedCommits.{commits_are_of_owners}
 use Rattle.schedule_play.proofs.OwnedPuts.{all-in}
-use Rattle.schedule_play.proofs.RisenDraws.{HasNumber, Numbered}
+use Rattle.schedule_play.proofs.RisenDraws.{HasNumber, Numbered, number-least, told-stands}
 use Rattle.schedule_play.proofs.RisenPuts.{put-as, puts-own}
 use Rattle.schedule_play.proofs.RisingCommits.{TakesOne, taken-moved}
-use Rattle.schedule_play.proofs.ResultEffects.{number-least, told-stands, taken-stays, commit-taken}
+use Rattle.schedule_play.proofs.ResultEffects.{taken-stays, commit-taken}
 use Rattle.schedule_play.proofs.ResultHands.{IsOwn, Told, AreTold, AreBelow, IsToldBy, Rest, Hand, Stands, Holds, settled-hand, jobs-hold, ended-plain, left-hold}
+use Rattle.schedule_play.proofs.SameNumbers.{same-host}
+use Rattle.schedule_play.proofs.HostTasks.{host-tasks}
 
 module _ (script : Script) (is : IsScript script) (earlier : List Call) (call : Call) (along : IsHistory script (call ∷ earlier)) where
   -- what was taken stays
@@ -317,7 +315,7 @@ pub history-holds : (script : Script) → IsScript script → (host : HostNo) �
 history-holds script is host few [] along =
     jobs-hold script is host few (taken_at script []) (jobs_of script host) (before_start script host) refl
     (record {
-      may = host-tasks script host script.hosts (recursion_from_All (λ (h : HostJobs). All (IsJob script h.host) h.jobs) script.hosts is.jobs);
+      may = host-tasks script is host;
       told = tt;
       below = tt;
       low = λ row unit t i own. absurd i;

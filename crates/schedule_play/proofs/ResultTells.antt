@@ -17,9 +17,9 @@ use Rattle.host_engine.proofs.BoundsTakes.{before_start}
 use Rattle.schedule_play.specs.Rising.{Taken, taken_at}
 use Rattle.schedule_play.specs.Told.{Tells, IsOfResult, ResultsTell}
 use Rattle.schedule_play.specs.Turns.{all_ended}
-use Rattle.schedule_play.proofs.MissingBays.{same-host}
 use Rattle.schedule_play.proofs.ResultHands.{Told, AreTold, IsToldBy, Stands}
 use Rattle.schedule_play.proofs.ResultSteps.{history-holds}
+use Rattle.schedule_play.proofs.SameNumbers.{same-host}
 
 -- Hosts. One that has no jobs has no results
 idle-endings : (script : Script) (host : HostNo) (history : List Call) → jobs_of script host ≡ [] → endings_at script history host ≡ []

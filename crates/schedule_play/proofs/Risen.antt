@@ -28,46 +28,25 @@ use Rattle.slot_rules.proofs.TableParts.{rule_of-row}
 use Rattle.attempts.specs.Phases.{IsIn, MayAsk}
 use Rattle.script_text.specs.Script.{Script}
 use Rattle.script_text.specs.Ranges.{IsScript}
-use Rattle.host_engine.specs.Calls.{row_of, id_of, write_of, read_of, is_at}
+use Rattle.host_engine.specs.Calls.{row_of, id_of, write_of, read_of, is_at, IsDone}
 use Rattle.host_engine.specs.Progress.{Progress}
 use Rattle.host_engine.specs.History.{IsHistory, progress_at, bay_at}
 use Rattle.schedule_play.specs.Laws.{writes, reads, AllBelow, NumbersRise}
-use Rattle.schedule_play.proofs.AccessIds.{bay-rows}
-use Rattle.schedule_play.proofs.AccessCovers.{all-map, all-if, lock-read, covers-all}
-use Rattle.schedule_play.proofs.AnsweredFreeNotes.{empty-bare, refused-grants}
+use Rattle.schedule_play.proofs.AccessCovers.{all-map, all-if, lock-read, covers-all, written-as}
+use Rattle.schedule_play.proofs.AnsweredFreeNotes.{empty-bare}
 use Rattle.schedule_play.proofs.HandClaims.{kind_of}
-use Rattle.schedule_play.proofs.HandMoves.{may-next, asked-id}
-use Rattle.schedule_play.proofs.LeftBays.{bay-mode}
+use Rattle.schedule_play.proofs.HandMoves.{may-next, id-is-own}
 use Rattle.schedule_play.proofs.LeftSlots.{HasReader}
 use Rattle.schedule_play.proofs.RowOwnersCalls.{noted-by}
 use Rattle.schedule_play.proofs.RowOwnersHands.{Asker, asker}
 use Rattle.schedule_play.proofs.SlotMoves.{outcome_at}
-use Rattle.schedule_play.proofs.SlotDoes.{Does, Refuses, Closes, Grants, Shows, Holds, Puts, Frees, Leaves, slot-does}
+use Rattle.schedule_play.proofs.SlotDoes.{Does, Refuses, Closes, Grants, Shows, Holds, Puts, Frees, Leaves, slot-does, share-does, Shares}
 use Rattle.schedule_play.proofs.RisenTrees.{FreesWith, next-frees}
 use Rattle.schedule_play.proofs.RisenDraws.{Numbered, IsNumber, Own, Drawn, numbered}
 use Rattle.schedule_play.proofs.RisenSlots.{found-reader, clear-at}
 use Rattle.schedule_play.proofs.RisenHands.{below-from, Low, own-low, reader-low}
 use Rattle.schedule_play.proofs.RisenPuts.{put-as, puts-apart}
-
--- Accesses. A write is a put that was done
-written-as : (what : Request) (reply : Reply) (n : Number) → write_of what reply ≡ Some n → (put_number what ≡ Some n) × (reply ≡ Done)
-written-as (Put row id m cell) Done n h = (h, refl)
-written-as (Put row id m cell) (Granted seen read_no write_no last life seized) n h = absurd (let bad : None ≡ Some n = h in cc)
-written-as (Put row id m cell) (Busy holder) n h = absurd (let bad : None ≡ Some n = h in cc)
-written-as (Put row id m cell) (Late above) n h = absurd (let bad : None ≡ Some n = h in cc)
-written-as (Put row id m cell) (Young note) n h = absurd (let bad : None ≡ Some n = h in cc)
-written-as (Put row id m cell) (Missing floor) n h = absurd (let bad : None ≡ Some n = h in cc)
-written-as (Put row id m cell) (Held seen) n h = absurd (let bad : None ≡ Some n = h in cc)
-written-as (Put row id m cell) (NoNote life) n h = absurd (let bad : None ≡ Some n = h in cc)
-written-as (Put row id m cell) Fault n h = absurd (let bad : None ≡ Some n = h in cc)
-written-as (Put row id m cell) Emptied n h = absurd (let bad : None ≡ Some n = h in cc)
-written-as (Put row id m cell) Fitted n h = absurd (let bad : None ≡ Some n = h in cc)
-written-as (Share row id want) reply n h = absurd (let bad : None ≡ Some n = h in cc)
-written-as (Claim row id how mask want) reply n h = absurd (let bad : None ≡ Some n = h in cc)
-written-as (Confirm row id want) reply n h = absurd (let bad : None ≡ Some n = h in cc)
-written-as (Release row id m) reply n h = absurd (let bad : None ≡ Some n = h in cc)
-written-as Lose reply n h = absurd (let bad : None ≡ Some n = h in cc)
-written-as Fit reply n h = absurd (let bad : None ≡ Some n = h in cc)
+use Rattle.schedule_play.proofs.BayRows.{bay-rows, bay-mode}
 
 -- a read is under stamps a share that was granted
 pub shown-as : (row : RowNo) (id : Number) (want : Bool) (reply : Reply) (n : Number) → read_of Order (Share row id want) reply ≡ Some n → (id ≡ n) × IsSome (grant_of reply)
@@ -117,17 +96,9 @@ module _ (bay : Bay) (ask : Ask) (slot : Slot) where
     late : bay.mode ≡ Order → slot.write_no.0 ≤ id.0
 
   share-shown : (row : RowNo) (id : Number) (want : Bool) (what : Request) (reply : Reply) (left : Slot) → Does bay ask slot what reply left → what ≡ Share row id want → IsSome (grant_of reply) → Shown id
-  share-shown row id want what reply left (Refuses r refused missing) is some = refused-grants r refused some
-  share-shown row id want what reply left (Closes there none) is some = absurd (cc)
-  share-shown row id want what reply left (Grants claims) is some = absurd (cc)
-  share-shown row id want what reply left (Shows {row = r} {id = by} {want = w} shares) is some =
-      let both : Share r by w ≡ Share row id want = is in
-      let same : by ≡ id = cc in
-      subst Shown same (record { there = shares.there; cell = shares.cell; late = shares.late })
-  share-shown row id want what reply left (Holds own) is some = absurd (cc)
-  share-shown row id want what reply left (Puts own) is some = absurd (cc)
-  share-shown row id want what reply left (Frees own) is some = absurd (cc)
-  share-shown row id want what reply left (Leaves free reader found) is some = absurd (cc)
+  share-shown row id want what reply left step is some =
+      let shares : Shares bay slot id want reply left = share-does bay ask slot row id want what reply left step is some in
+      record { there = shares.there; cell = shares.cell; late = shares.late }
 
   -- a release that was done found a note or a reader
   abbrev pub Found : Number → Type 0
@@ -157,10 +128,10 @@ module _ (script : Script) (is : IsScript script) (earlier : List Call) (call : 
   abbrev slot : Slot
   slot = slot_of bay row
 
-  reply-is : call.answer.reply ≡ (outcome_at bay row call).reply
+  pub reply-is : call.answer.reply ≡ (outcome_at bay row call).reply
   reply-is = ap (λ (c : Call). c.answer.reply) along.1.replied ∙ ap (λ (x : Outcome). x.reply) (rule_of-row bay call.ask (is_fault call.answer.reply) call.ask.what row of)
 
-  does : Does bay call.ask slot call.ask.what (outcome_at bay row call).reply (outcome_at bay row call).slot
+  pub does : Does bay call.ask slot call.ask.what (outcome_at bay row call).reply (outcome_at bay row call).slot
   does = slot-does bay call.ask slot (is_fault call.answer.reply) call.ask.what row of
 
   -- the row is one of the script's, or its slot is bare
@@ -170,7 +141,7 @@ module _ (script : Script) (is : IsScript script) (earlier : List Call) (call : 
       by : (b : Bool) → nat_lt row.0 script.rows ≡ b → (row.0 < script.rows) ⊎ (slot ≡ bare_slot (number 0))
       by true e = inl (grind (arith, nat_tests))
       by false e =
-          let rows : length bay.slots ≡ script.rows = bay-rows script is call.bay earlier in
+          let rows : length bay.slots ≡ script.rows = bay-rows script call.bay earlier in
           let past : script.rows ≤ row.0 = grind (arith, nat_tests) in
           inr (get_or_past bay.slots row.0 (bare_slot (number 0)) (omega (arith, rows, past)))
 
@@ -180,12 +151,9 @@ module _ (script : Script) (is : IsScript script) (earlier : List Call) (call : 
   abbrev p : Progress
   p = progress_at script call.ask.host earlier
 
-  own-id : id_of call.ask.what ≡ Some a.hand.hand.id
-  own-id = asked-id script is earlier call.ask.host a.steps a.hand call a.asked
-
   -- an id of the request is its own
   is-own : (by : Number) → id_of call.ask.what ≡ Some by → by ≡ a.hand.hand.id
-  is-own by e = let both : Some by ≡ Some a.hand.hand.id = sym e ∙ own-id in cc
+  is-own = id-is-own script is earlier call.ask.host a.steps a.hand call a.asked
 
   -- what is known of its number
   x : Numbered script.n a.hand.hand.id script.mode (kind_of a.hand.hand.task) call.ask.host p.calls (record { seen = p.seen; steps = a.steps })
@@ -266,7 +234,7 @@ module _ (script : Script) (is : IsScript script) (earlier : List Call) (call : 
           (subst (λ (y : Reply). IsSome (grant_of y)) reply-is some)
 
       late : slot.write_no.0 ≤ n.0
-      late = shown.late (bay-mode script is call.bay earlier ∙ order)
+      late = shown.late (bay-mode script call.bay earlier ∙ order)
 
       below : row.0 < script.rows
       below = by row-or-bare
@@ -343,7 +311,7 @@ module _ (script : Script) (is : IsScript script) (earlier : List Call) (call : 
   reads-rise n Lock m Fit w e = absurd (let bad : None ≡ Some n = e in cc)
 
 -- a history up to a call
-up-to : (script : Script) (later before : List Call) → IsHistory script (later ++ before) → IsHistory script before
+pub up-to : (script : Script) (later before : List Call) → IsHistory script (later ++ before) → IsHistory script before
 up-to script [] before along = along
 up-to script (call ∷ later) before along = up-to script later before along.0
 
@@ -351,3 +319,8 @@ pub numbers_rise : NumbersRise
 numbers_rise script later earlier call row n is along of =
     let now : IsHistory script (call ∷ earlier) = up-to script later (call ∷ earlier) along in
     (λ e. writes-rise script is earlier call now row of n e, λ e. reads-rise script is earlier call now row of n script.mode refl call.ask.what refl e)
+
+-- the number of a put that is done is above those of all writes and reads of its slot
+pub done-rises : (script : Script) → IsScript script → (earlier : List Call) (call : Call) → IsHistory script (call ∷ earlier) → (row : RowNo) (id n : Number) (cell : Cell) → call.ask.what ≡ Put row id n cell →
+    IsDone call → AllBelow n (writes call.bay row earlier) × AllBelow n (reads script call.bay row earlier)
+done-rises script is earlier call along row id n cell what done = put-rises script is earlier call along row (ap (λ (w : Request). row_of w) what) row id n cell what done

@@ -23,7 +23,8 @@ use Rattle.raid_base.specs.declared.jobs.RowPart.{RowPart}
 use Rattle.raid_base.specs.declared.jobs.PartsFault.{PartsFault}
 use Rattle.raid_base.specs.Fits.{fits, fits_put, fits_release}
 use Rattle.raid_base.specs.Numbers.{greater, draw, seen_drawn, sees_note, sees}
-use Rattle.raid_base.specs.Steps.{Steps, Asks, Draws, Ends, Standing, settled, told, next_errand, errand_of}
+use Rattle.raid_base.specs.Steps.{Steps, Asks, Draws, Ends, Standing, settled, told, next_errand, errand_of, Commit}
+use Rattle.raid_base.specs.declared.jobs.Ended.{Ended}
 use Rattle.attempts.specs.Taking.{Access, Finish}
 use Rattle.attempts.specs.Numbering.{IsOrigin, ShowsNumber}
 use Rattle.attempts.specs.Phases.{Past, begins, number_of, after, after_asking, after_number, MayAsk, Keeps, HasOnlyRead, HasWritten, HasRepaired}
@@ -131,6 +132,11 @@ pub data IsNumber (id : Number) (mode : Mode) (kind : How) (past : Past) (calls 
   Own : (is : m ≡ id) (order : mode ≡ Order) (plain : kind ≡ Plain) → IsNumber id mode kind past calls m
   Drawn : (late : 2 ≤ past.phase) (above : id.0 < m.0) (shown : ShownBelow m.0 calls) → IsNumber id mode kind past calls m
 
+-- Numbers. That of an attempt is not below its id
+pub number-least : {id : Number} {mode : Mode} {kind : How} {past : _} {calls : List Call} {m : Number} → IsNumber id mode kind past calls m → id.0 ≤ m.0
+number-least (Own is order plain) = let same = ap (λ (x : Number). x.0) is in omega (arith, same)
+number-least (Drawn late above shown) = omega (arith, above)
+
 pub record HasNumber (id : Number) (mode : Mode) (kind : How) (host : HostNo) (past : Past) (calls : List Call) (seen m : Number) : Type 0 where
   pub is : IsNumber id mode kind past calls m
   pub low : m.0 ≤ seen.0
@@ -194,24 +200,32 @@ module _ (n : ℕ) (id : Number) (mode : Mode) (kind : How) (host : HostNo) (few
           let ask : LateAsk past call.bay call.ask.what call.answer.reply = late-asks n id past call.bay call.ask.what call.answer.reply may late fit in
           Drawn ask.late above (λ k s. absurd (ask.none k s), shown)
 
+  -- a reply leaves the number as it is
+  pub told-stands : (calls : List Call) (seen : Number) (call : Call) (e : Errand) (stop : Ended) (commits : List Commit) (k : Reply → Steps Finish) →
+      (h : Numbered n id mode kind host calls (record { seen = seen; steps = Asks e stop commits k })) → e ≡ errand_of call → fits call.ask.what call.answer.reply ≡ true →
+      (x : Numbered n id mode kind host (call ∷ calls) (record { seen = sees seen call.answer.reply; steps = k call.answer.reply })) × (x.past.number ≡ h.past.number)
+  told-stands calls seen call e stop commits k h is fit =
+      let r : Reply = call.answer.reply in
+      let may : MayAsk n id h.past call.bay call.ask.what = may-next n id h.past (Asks e stop commits k) (errand_of call) h.keeps (ap (λ (x : Errand). Some x) is) in
+      let more : seen.0 ≤ (sees seen r).0 = reply-covers seen r in
+      let low : id.0 ≤ seen.0 = h.low in (
+        record {
+          past = after h.past (errand_of call) r;
+          keeps = subst (λ (x : Errand). Keeps n id Any (after h.past x r) (k r)) is (h.keeps.1 r);
+          frees = subst (λ (o : Option Number). Frees o (k r)) (sym (number-kept h.past call.bay call.ask.what r)) (h.frees.1 r);
+          tells = subst (λ (o : Option Number). TellsNumber o (k r)) (sym (number-kept h.past call.bay call.ask.what r)) (h.tells.1 r);
+          low = omega (arith, more, low);
+          shown = (λ j s. let le = shown-seen seen r j s in omega (arith, le), shown-more (seen.0 + 1) ((sees seen r).0 + 1) (omega (arith, more)) calls h.shown);
+          number = λ m has. told-number calls seen call h.past may fit m (h.number m (sym (number-kept h.past call.bay call.ask.what r) ∙ has));
+        },
+        number-kept h.past call.bay call.ask.what r,
+      )
+
   told-numbered : (calls : List Call) (seen : Number) (call : Call) (s : Steps Finish) → Stands calls seen s → next_errand s ≡ Some (errand_of call) → fits call.ask.what call.answer.reply ≡ true →
       Numbered n id mode kind host (call ∷ calls) (told host (record { seen = seen; steps = s }) call.answer.reply)
   told-numbered calls seen call (Asks e t c k) h asked fit =
       let is : e ≡ errand_of call = cc in
-      let r : Reply = call.answer.reply in
-      let may : MayAsk n id h.past call.bay call.ask.what = may-next n id h.past (Asks e t c k) (errand_of call) h.keeps asked in
-      let more : seen.0 ≤ (sees seen r).0 = reply-covers seen r in
-      let low : id.0 ≤ seen.0 = h.low in
-      settled-numbered (call ∷ calls) (sees seen r) (k r)
-      (record {
-        past = after h.past (errand_of call) r;
-        keeps = subst (λ (x : Errand). Keeps n id Any (after h.past x r) (k r)) is (h.keeps.1 r);
-        frees = subst (λ (o : Option Number). Frees o (k r)) (sym (number-kept h.past call.bay call.ask.what r)) (h.frees.1 r);
-        tells = subst (λ (o : Option Number). TellsNumber o (k r)) (sym (number-kept h.past call.bay call.ask.what r)) (h.tells.1 r);
-        low = omega (arith, more, low);
-        shown = (λ j s. let le = shown-seen seen r j s in omega (arith, le), shown-more (seen.0 + 1) ((sees seen r).0 + 1) (omega (arith, more)) calls h.shown);
-        number = λ m is. told-number calls seen call h.past may fit m (h.number m (sym (number-kept h.past call.bay call.ask.what r) ∙ is));
-      })
+      settled-numbered (call ∷ calls) (sees seen call.answer.reply) (k call.answer.reply) (told-stands calls seen call e t c k h is fit).0
   told-numbered calls seen call (Draws k) h asked fit = absurd (cc)
   told-numbered calls seen call (Ends f) h asked fit = absurd (cc)
 

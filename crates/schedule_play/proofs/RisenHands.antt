@@ -31,15 +31,15 @@ use Rattle.host_engine.specs.History.{IsHistory, bay_at}
 use Rattle.schedule_play.specs.RowStates.{slot_at}
 use Rattle.schedule_play.specs.Hands.{HasHand, calls_at}
 use Rattle.schedule_play.specs.Ids.{IsNoteClaim}
-use Rattle.schedule_play.proofs.AccessIds.{starts-first, ids_are_apart}
+use Rattle.schedule_play.proofs.AccessIds.{ids_are_apart}
 use Rattle.schedule_play.proofs.AnsweredFree.{happened-map}
 use Rattle.schedule_play.proofs.HandClaims.{kind_of, IsTake, next-kind, next-new}
 use Rattle.schedule_play.proofs.HandMoves.{Came, Stayed, Begun, Went, came}
-use Rattle.schedule_play.proofs.LeftBays.{bay-mode}
 use Rattle.schedule_play.proofs.LeftSlots.{HasReader}
 use Rattle.schedule_play.proofs.RowOwnersHands.{happened-own, other-id}
 use Rattle.schedule_play.proofs.RisenDraws.{ShownBelow}
 use Rattle.schedule_play.proofs.RisenSlots.{NoteMove, Stood, Shared, Made, ReaderMove, Sat, Came as Joined, note-moved, reader-moved}
+use Rattle.schedule_play.proofs.BayRows.{starts-first, bay-mode}
 
 pub below-from : (a b : ℕ) → a ≤ b → (a ≡ b → ⊥) → a < b
 below-from a b le apart = by (nat_lt a b) refl
@@ -193,11 +193,11 @@ module _ (script : Script) (is : IsScript script) (at : BayNo) (row : RowNo) (be
           let kind : how ≡ kind_of goes.before.hand.task = (next-kind script is earlier host goes.steps goes.before call goes.asked row note.id how mask want what).0 in
           turned (slot_now (call ∷ earlier)) note.id h.hand.id goes.before.hand.task h.hand.task (call ∷ calls_at script earlier host) (calls_at script (call ∷ earlier) host) named goes.same_task goes.calls
           (low-made script.mode note (kind_of goes.before.hand.task) old (slot_now earlier) (slot_now (call ∷ earlier)) call (calls_at script earlier host) how mask want reply left write read free
-          (λ plain order. late plain (bay-mode script is at earlier ∙ order)) kind)
+          (λ plain order. late plain (bay-mode script at earlier ∙ order)) kind)
 
   -- The reader of an attempt in hand. It is of a share with its id
   reader-asked : (history : List Call) → IsHistory script history → (id : Number) → HasReader id (slot_at script history at row) → Happened (λ (c : Call). id_of c.ask.what ≡ Some id) history
-  reader-asked [] along id has = absurd (subst (λ (s : Slot). HasReader id s) (starts-first script is at row below) has).1
+  reader-asked [] along id has = absurd (subst (λ (s : Slot). HasReader id s) (starts-first script at row below) has).1
   reader-asked (call ∷ earlier) along id has = by (reader-asked earlier along.0 id) (reader-moved script is at row below earlier call along id has)
     where
       by : (HasReader id (slot_now earlier) → Happened (λ (c : Call). id_of c.ask.what ≡ Some id) earlier) → ReaderMove (bay_at script at earlier) at row call (bay_at script at (call ∷ earlier)) id →
@@ -207,7 +207,7 @@ module _ (script : Script) (is : IsScript script) (at : BayNo) (row : RowNo) (be
 
   pub reader-low : (history : List Call) → IsHistory script history → (host : HostNo) (steps : Steps Finish) (h : HasHand script history host steps) (e : Errand) → next_errand steps ≡ Some e →
       HasReader h.hand.id (slot_at script history at row) → (m : ℕ) → ShownBelow m (calls_at script history host) → (slot_at script history at row).write_no.0 < m
-  reader-low [] along host steps h e asked has m shown = absurd (subst (λ (s : Slot). HasReader h.hand.id s) (starts-first script is at row below) has).1
+  reader-low [] along host steps h e asked has m shown = absurd (subst (λ (s : Slot). HasReader h.hand.id s) (starts-first script at row below) has).1
   reader-low (call ∷ earlier) along host steps h e asked has m shown =
       by (λ s hs es asks was low. reader-low earlier along.0 host s hs es asks was m low) (came script is earlier call along.0 along.1 host steps h)
       (reader-moved script is at row below earlier call along h.hand.id has)

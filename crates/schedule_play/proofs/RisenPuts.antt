@@ -26,12 +26,12 @@ use Rattle.schedule_play.specs.Hands.{HasHand, calls_at}
 use Rattle.schedule_play.proofs.AccessTrees.{next-asked}
 use Rattle.schedule_play.proofs.AccessHosts.{asked-id}
 use Rattle.schedule_play.proofs.AccessIds.{all-apart, asker-few}
-use Rattle.schedule_play.proofs.HandMoves.{Came, Stayed, Begun, Went, came, may-next}
+use Rattle.schedule_play.proofs.HandMoves.{Came, Stayed, Begun, Went, came, may-next, next-id}
 use Rattle.schedule_play.proofs.HandMoves as moves
-use Rattle.schedule_play.proofs.MissingBays.{same-host}
-use Rattle.schedule_play.proofs.RowOwnersHands.{Asker, asker, next-id, happened-own}
+use Rattle.schedule_play.proofs.RowOwnersHands.{Asker, asker, happened-own}
 use Rattle.schedule_play.proofs.RisenDraws.{numbered}
 use Rattle.schedule_play.proofs.RisenHosts.{Fresh, NewWork, Next, takes-next}
+use Rattle.schedule_play.proofs.SameNumbers.{same-host}
 
 -- the number of a put leaves its host by 16, and its host has seen it
 abbrev pub IsOwnNumber : Call → Type 0

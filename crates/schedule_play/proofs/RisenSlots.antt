@@ -4,7 +4,6 @@ use Rattle.std.proofs.lemmas.Bool.Decides.{nat_tests}
 use Rattle.raid_base.specs.declared.numbers.BayNo.{BayNo}
 use Rattle.raid_base.specs.declared.numbers.RowNo.{RowNo}
 use Rattle.raid_base.specs.declared.numbers.Number.{Number}
-use Rattle.raid_base.specs.declared.messages.Ask.{Ask}
 use Rattle.raid_base.specs.declared.messages.Call.{Call}
 use Rattle.raid_base.specs.declared.messages.How.{How}
 use Rattle.raid_base.specs.declared.messages.How.TheVariants.{Plain, Seize}
@@ -25,11 +24,11 @@ use Rattle.script_text.specs.Ranges.{IsScript}
 use Rattle.host_engine.specs.Calls.{row_of}
 use Rattle.host_engine.specs.History.{IsHistory, bay_at}
 use Rattle.schedule_play.specs.RowStates.{slot_at}
-use Rattle.schedule_play.proofs.AccessIds.{starts-first}
 use Rattle.schedule_play.proofs.LeftSlots.{HasReader, Lets, slot-lets}
 use Rattle.schedule_play.proofs.RowOwnersCalls.{noted-by}
 use Rattle.schedule_play.proofs.SlotMoves.{SlotMove, Kept, Touched, Lost, Fitted, outcome_at, moved}
-use Rattle.schedule_play.proofs.SlotDoes.{Claims, Does, Refuses, Closes, Grants, Shows, Holds, Puts, Frees, Leaves, slot-does}
+use Rattle.schedule_play.proofs.SlotDoes.{Claims, Does, Refuses, Closes, Grants, Shows, Holds, Puts, Frees, Leaves, slot-does, claimed-id}
+use Rattle.schedule_play.proofs.BayRows.{starts-first}
 
 -- No reader stands beside a note, nor in a bay without a device.
 pub record Clear (bay : Bay) (slot : Slot) : Type 0 where
@@ -68,10 +67,6 @@ pub data ReaderMove (old : Bay) (at : BayNo) (row : RowNo) (call : Call) (new : 
   Sat : (was : HasReader id (slot_of old row)) (write : (slot_of new row).write_no ≡ (slot_of old row).write_no) → ReaderMove old at row call new id
   Came : (place : call.bay ≡ at) (want : Bool) (what : call.ask.what ≡ Share row id want) (reply : call.answer.reply ≡ granted old (slot_of old row) want None)
       (write : (slot_of new row).write_no ≡ (slot_of old row).write_no) → ReaderMove old at row call new id
-
-claimed-id : (ask : Ask) (id : Number) (mask : ℕ) (o : Option Note) → (claimed_note ask id mask o).id ≡ id
-claimed-id ask id mask None = refl
-claimed-id ask id mask (Some note) = refl
 
 module _ (old : Bay) (at : BayNo) (row : RowNo) (call : Call) (new : Bay) where
   abbrev slot : Slot
@@ -221,7 +216,7 @@ module _ (old : Bay) (at : BayNo) (row : RowNo) (call : Call) (new : Bay) where
 -- Along a history
 module _ (script : Script) (is : IsScript script) (at : BayNo) (row : RowNo) (below : row.0 < script.rows) where
   pub clear-at : (history : List Call) → IsHistory script history → Clear (bay_at script at history) (slot_at script history at row)
-  clear-at [] along = subst (λ (s : Slot). Clear (bay_at script at []) s) (sym (starts-first script is at row below)) (record { alone = λ note bad. refl; bare = λ e. refl })
+  clear-at [] along = subst (λ (s : Slot). Clear (bay_at script at []) s) (sym (starts-first script at row below)) (record { alone = λ note bad. refl; bare = λ e. refl })
   clear-at (call ∷ earlier) along =
       clear-move (bay_at script at earlier) at row call (bay_at script at (call ∷ earlier)) (moved script is earlier call along.1 at row below) (clear-at earlier along.0)
 

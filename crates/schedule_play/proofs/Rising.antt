@@ -2,7 +2,6 @@
 -- writes of its slot and of its parity's. While the unit has a cell, those of its slot alone cover them.
 use Rattle.std.proofs.Common.{◌≡◌, ◌⊎◌, inl, inr, refl, sym, ap, subst, ◌∙◌, ℕ, ◌+◌, ◌<◌, ◌≤◌, Bool, if◌then◌else◌, List, [], ◌∷◌, Option, Some, None, IsSome, is_some, arith}
 use Rattle.std.specs.List.{AllByRecursion}
-use Rattle.std.proofs.lemmas.Nat.{mod_below}
 use Rattle.raid_base.specs.declared.numbers.BayNo.{BayNo}
 use Rattle.raid_base.specs.declared.numbers.RowNo.{RowNo}
 use Rattle.raid_base.specs.declared.numbers.Number.{Number}
@@ -21,10 +20,11 @@ use Rattle.raid_base.specs.declared.jobs.Task.TheVariants as tasks
 use Rattle.raid_base.specs.declared.names.Name.{Name}
 use Rattle.raid_base.specs.Replies.{grant_of}
 use Rattle.raid_base.specs.Steps.{Commit, commits_next, errand_of}
-use Rattle.stripe_layout.specs.Placement.{parity_at, parity_bay, bay_of}
+use Rattle.stripe_layout.specs.Placement.{parity_bay, bay_of}
 use Rattle.stripe_layout.proofs.LayoutLemmas.{parity_in}
 use Rattle.attempts.specs.Numbering.{ShowsNumber}
 use Rattle.attempts.specs.Phases.{IsIn}
+use Rattle.attempts.proofs.RoomLemmas.{bay-below}
 use Rattle.script_text.specs.Script.{Script}
 use Rattle.script_text.specs.Ranges.{IsScript}
 use Rattle.host_engine.specs.Calls.{Happened, row_of, id_of, write_of, IsClaim, IsPut, IsDone}
@@ -44,11 +44,10 @@ use Rattle.schedule_play.proofs.OwnedPuts as owned
 use Rattle.schedule_play.proofs.OwnedPuts.{all-in, puts_are_of_owners}
 use Rattle.schedule_play.proofs.RowOwnersCalls.{has-noted}
 use Rattle.schedule_play.proofs.RowOwnersHands.{Asker, asker, happened-in, happened-own}
-use Rattle.schedule_play.proofs.Risen.{numbers_rise}
 use Rattle.schedule_play.proofs.WritePuts.{WasGone}
 use Rattle.schedule_play.proofs.CoveredPutsHands.{in-happened}
 use Rattle.schedule_play.proofs.ContentParityPuts as parities
-use Rattle.schedule_play.proofs.ContentPutters.{own-id, own-noted}
+use Rattle.schedule_play.proofs.ContentPutters.{own-noted}
 use Rattle.schedule_play.proofs.ContentPuts.{commits-are, may-put, mend-puts}
 use Rattle.schedule_play.proofs.ContentRows.{Stands, stands}
 use Rattle.schedule_play.proofs.ContentSlots.{CellTurn, Same, Bare, Filled, cell-turned}
@@ -60,6 +59,8 @@ use Rattle.schedule_play.proofs.RisingClaims.{WriteMove, Quiet, Wrote, write-mov
 use Rattle.schedule_play.proofs.RisingShown.{UnitShown, parity-covered, unit-covered, recovery-covered}
 use Rattle.schedule_play.proofs.RisingCommits.{write-rises, TakesOne, taken-moved}
 use Rattle.schedule_play.proofs.RisingPuts.{calls-named, puts-once, missing-unput, number-above}
+use Rattle.schedule_play.proofs.HandMoves.{id-is-own}
+use Rattle.schedule_play.proofs.Risen.{done-rises}
 
 -- Numbers below
 abbrev Below : Number → List Taken → Type 0
@@ -99,9 +100,6 @@ module _ (script : Script) (is : IsScript script) (row : RowNo) (below : row.0 <
   abbrev U : BayNo
   U = bay_of script.n row unit
 
-  unit-within : (U).0 < script.n
-  unit-within = let least = is.devices_least in mod_below (parity_at script.n row + 1 + unit) script.n (omega (arith, least))
-
   abbrev Takens : List Call → List Taken
   Takens history = taken_at script history row unit
 
@@ -123,12 +121,6 @@ module _ (script : Script) (is : IsScript script) (row : RowNo) (below : row.0 <
     may : MayPut a.hand.hand.task
     may = may-put script is earlier call a.steps a.hand a.asked row id n cell what
 
-    -- its number is above those of all writes of its slot
-    pub above-own : AllBelow n (writes call.bay row earlier)
-    above-own =
-        ((numbers_rise script [] earlier call row n is along (ap (λ (w : Request). row_of w) what)).0
-        (ap (λ (w : Request). write_of w call.answer.reply) what ∙ ap (λ (r : Reply). write_of (Put row id n cell) r) done)).0
-
     stood : Stands script earlier
     stood = stands script is earlier along.0
 
@@ -142,7 +134,7 @@ module _ (script : Script) (is : IsScript script) (row : RowNo) (below : row.0 <
       writes-celled : (object : Name) (first from count : ℕ) → a.hand.hand.task ≡ tasks.Write object first from count → cell_at script earlier row (U) ≡ None → ⊥
       writes-celled object first from count writes none =
           let note = has-noted (slot_at script earlier (U) row).note a.hand.hand.id (own-noted script is earlier call along row below (U) id n cell place what done a.steps a.hand a.asked) in
-          not-blank script is row below earlier along.0 call.ask.host a.steps a.hand (subst IsWriteTask (sym writes) tt) (U) unit-within note.0 note.1 note.2 none
+          not-blank script is row below earlier along.0 call.ask.host a.steps a.hand (subst IsWriteTask (sym writes) tt) (U) (bay-below script.n row unit (let least = is.devices_least in omega (arith, least))) note.0 note.1 note.2 none
 
       recovers-none : (at : RowNo) → a.hand.hand.task ≡ tasks.Recover at → ⊥
       recovers-none at recovers = subst IsPutter recovers (owned.putter script is earlier call along row unit below inside id n cell place what done a.steps a.hand a.asked)
@@ -163,11 +155,11 @@ module _ (script : Script) (is : IsScript script) (row : RowNo) (below : row.0 <
           two : cell_at script earlier row (P) ≡ None → ⊥
           two bare =
               units-aside script is row below unit inside
-              (one_bay_is_missing script earlier is along.0 (U) (P) unit-within (parity_in script.n row is.devices_least) (row, below, ap (λ (o : Option Cell). is_some o) none) (row, below, ap (λ (o : Option Cell). is_some o) bare))
+              (one_bay_is_missing script earlier is along.0 (U) (P) (bay-below script.n row unit (let least = is.devices_least in omega (arith, least))) (parity_in script.n row is.devices_least) (row, below, ap (λ (o : Option Cell). is_some o) none) (row, below, ap (λ (o : Option Cell). is_some o) bare))
 
           mends : (bay : BayNo) → a.hand.hand.task ≡ tasks.Rebuild bay → CameFrom id (slot_at script earlier (P) row).note → AllBelow n (writes (P) row earlier)
           mends bay same from =
-              let own : id ≡ a.hand.hand.id = own-id script is earlier call along row below (U) id n cell place what done a.steps a.hand a.asked in
+              let own : id ≡ a.hand.hand.id = id-is-own script is earlier call.ask.host a.steps a.hand call a.asked id (ap (λ (w : Request). id_of w) what) in
               let mine =
               happened-own script is earlier along.0 call.ask.host a.steps a.hand (errand_of call) a.asked (λ c q. q.1 ∙ ap (λ (x : Number). Some x) own) (parity-covered script is row below earlier along.0 id from) in
               let c = happened-in Calls mine in
@@ -347,7 +339,7 @@ module _ (script : Script) (is : IsScript script) (row : RowNo) (below : row.0 <
         own : call.bay ≡ U → Facts (call ∷ earlier)
         own place =
             let above : AllBelow t.number (writes (U) row earlier) =
-            subst (λ (b : BayNo). AllBelow t.number (writes b row earlier)) place (above-own earlier call along t.id t.number t.cell t.what t.done) in
+            subst (λ (b : BayNo). AllBelow t.number (writes b row earlier)) place (done-rises script is earlier call along row t.id t.number t.cell t.what t.done).0 in
             more (f.celled (own-celled earlier call along t.id t.number t.cell t.what t.done place t.commit t.among) t.number above)
             (λ m us ps. wrote-below (U) row call earlier t.id t.number t.cell place t.what t.done m us)
             (λ there m us. wrote-below (U) row call earlier t.id t.number t.cell place t.what t.done m us)
@@ -355,7 +347,7 @@ module _ (script : Script) (is : IsScript script) (row : RowNo) (below : row.0 <
         parity : call.bay ≡ P → Facts (call ∷ earlier)
         parity place =
             let above : AllBelow t.number (writes (P) row earlier) =
-            subst (λ (b : BayNo). AllBelow t.number (writes b row earlier)) place (above-own earlier call along t.id t.number t.cell t.what t.done) in
+            subst (λ (b : BayNo). AllBelow t.number (writes b row earlier)) place (done-rises script is earlier call along row t.id t.number t.cell t.what t.done).0 in
             let gone : Gone earlier call along t.id t.number t.cell t.what t.done place t.commit t.among t.of_row t.of_unit =
             parity-gone earlier call along t.id t.number t.cell t.what t.done place t.commit t.among t.of_row t.of_unit in
             let bare : cell_at script (call ∷ earlier) row (U) ≡ None = parities.unit-bare script is earlier call along (stands script is earlier along.0).holds row below place unit inside gone.none in

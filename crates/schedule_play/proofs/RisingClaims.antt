@@ -32,14 +32,12 @@ use Rattle.host_engine.specs.Torn.{IsMissing}
 use Rattle.host_engine.specs.History.{IsHistory, bay_at}
 use Rattle.schedule_play.specs.RowStates.{slot_at}
 use Rattle.schedule_play.specs.Laws.{with_some, writes, AtMost, IsCovered}
-use Rattle.schedule_play.proofs.AccessCovers.{accesses_are_covered}
-use Rattle.schedule_play.proofs.AccessIds.{same-bay}
-use Rattle.schedule_play.proofs.AnsweredFreeNotes.{refused-grants}
-use Rattle.schedule_play.proofs.LeftBays.{bay-mode}
+use Rattle.schedule_play.proofs.AccessCovers.{accesses_are_covered, done-put}
 use Rattle.schedule_play.proofs.SlotMoves.{SlotMove, Kept, Touched, Lost, outcome_at, moved}
 use Rattle.schedule_play.proofs.SlotMoves as moves
-use Rattle.schedule_play.proofs.SlotDoes.{Does, Refuses, Closes, Grants, Shows, Holds, Puts, Frees, Leaves, slot-does}
-use Rattle.schedule_play.proofs.ContentWriteFacts.{done-put}
+use Rattle.schedule_play.proofs.SlotDoes.{Does, slot-does, claim-does, Claims}
+use Rattle.schedule_play.proofs.SameNumbers.{same-bay}
+use Rattle.schedule_play.proofs.BayRows.{bay-mode}
 
 -- Writes of a slot after a call: those before it, and that of a put that was done
 pub data WriteMove (at : BayNo) (row : RowNo) (call : Call) (earlier : List Call) : Type 0 where
@@ -149,24 +147,15 @@ module _ (bay : Bay) (ask : Ask) (slot : Slot) where
     shown : ShowsNumber reply slot.write_no
     late : how ≡ Plain → bay.mode ≡ Order → slot.write_no.0 < id.0
 
-  claim-grants : (row : RowNo) (id : Number) (how : How) (mask : ℕ) (want : Bool) (what : Request) (reply : Reply) (left : Slot) → Does bay ask slot what reply left → what ≡ Claim row id how mask want → IsSome (grant_of reply) →
-      Granting id how reply
-  claim-grants row id how mask want what reply left (Refuses r refused missing) is some = refused-grants r refused some
-  claim-grants row id how mask want what reply left (Closes there none) is some = absurd (let bad : false ≡ true = some in cc)
-  claim-grants row id how mask want what reply left (Grants {row = r} {id = by} {how = h} {mask = m} {want = w} claims) is some =
-      let both : Claim r by h m w ≡ Claim row id how mask want = is in
-      let one : by ≡ id = cc in
-      let kind : h ≡ how = cc in
+  claim-tells : (row : RowNo) (id : Number) (how : How) (mask : ℕ) (want : Bool) (what : Request) (reply : Reply) (left : Slot) → Does bay ask slot what reply left → what ≡ Claim row id how mask want →
+      IsSome (grant_of reply) → Granting id how reply
+  claim-tells row id how mask want what reply left step is some =
+      let claims : Claims bay ask slot id how mask want reply left = claim-does bay ask slot row id how mask want what reply left step is some in
       record {
         there = claims.there;
         shown = subst (λ (x : Reply). ShowsNumber x slot.write_no) (sym claims.reply) (inr (inl refl));
-        late = λ plain order. (let above = claims.late (kind ∙ plain) order in let same : by.0 ≡ id.0 = ap (λ (x : Number). x.0) one in omega (arith, above, same));
+        late = λ plain order. (let above = claims.late plain order in omega (arith, above));
       }
-  claim-grants row id how mask want what reply left (Shows shares) is some = absurd (cc)
-  claim-grants row id how mask want what reply left (Holds own) is some = absurd (cc)
-  claim-grants row id how mask want what reply left (Puts own) is some = absurd (cc)
-  claim-grants row id how mask want what reply left (Frees own) is some = absurd (cc)
-  claim-grants row id how mask want what reply left (Leaves free reader found) is some = absurd (cc)
 
 -- a call has shown a number that these are at most
 pub record Covering (mode : Mode) (call : Call) (ns : List Number) : Type 0 where
@@ -201,7 +190,7 @@ module _ (script : Script) (is : IsScript script) (earlier : List Call) (call : 
       grants reply of some =
           let g : Granting bay call.ask slot id how call.answer.reply =
           subst (λ (r : Reply). Granting bay call.ask slot id how r) (sym reply)
-          (claim-grants bay call.ask slot row id how mask want call.ask.what (o).reply (o).slot (slot-does bay call.ask slot (is_fault call.answer.reply) call.ask.what row of) what
+          (claim-tells bay call.ask slot row id how mask want call.ask.what (o).reply (o).slot (slot-does bay call.ask slot (is_fault call.answer.reply) call.ask.what row of) what
           (subst (λ (r : Reply). IsSome (grant_of r)) reply some)) in
           record {
             number = slot.write_no;
@@ -212,7 +201,7 @@ module _ (script : Script) (is : IsScript script) (earlier : List Call) (call : 
                 let kind : how ≡ Plain = cc in
                 let one : id ≡ by = cc in
                 let same : id.0 ≡ by.0 = ap (λ (x : Number). x.0) one in
-                let above = g.late kind (bay-mode script is at earlier ∙ order) in
+                let above = g.late kind (bay-mode script at earlier ∙ order) in
                 omega (arith, above, same));
           }
 

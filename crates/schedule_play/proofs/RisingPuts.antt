@@ -1,6 +1,6 @@
 -- Of an attempt in hand: its calls have its id, it puts a slot once and no slot that was missing, and what it puts has a number
 -- above what it was shown.
-use Rattle.std.proofs.Common.{◌≡◌, ◌⊎◌, inl, inr, refl, sym, ap, subst, ◌∙◌, ◌<◌, true, false, List, [], ◌∷◌, Option, Some, None, IsSome, arith}
+use Rattle.std.proofs.Common.{◌≡◌, ◌⊎◌, inl, inr, refl, sym, ap, subst, ◌∙◌, ◌<◌, true, false, List, [], ◌∷◌, Option, Some, None, IsSome, arith, ◌≤◌}
 use Rattle.raid_base.specs.declared.numbers.BayNo.{BayNo}
 use Rattle.raid_base.specs.declared.numbers.HostNo.{HostNo}
 use Rattle.raid_base.specs.declared.numbers.RowNo.{RowNo}
@@ -18,7 +18,7 @@ use Rattle.raid_base.specs.Replies.{grant_of}
 use Rattle.raid_base.specs.Steps.{Steps, next_errand, errand_of}
 use Rattle.attempts.specs.Taking.{Finish}
 use Rattle.attempts.specs.Numbering.{ShowsNumber}
-use Rattle.attempts.specs.Phases.{Slot, IsIn, MayAsk, grants, after_asking}
+use Rattle.attempts.specs.Phases.{Slot, IsIn, MayAsk, grants, after_asking, Past}
 use Rattle.script_text.specs.Script.{Script}
 use Rattle.script_text.specs.Ranges.{IsScript}
 use Rattle.host_engine.specs.Calls.{Happened, id_of, IsClaim, IsPut, IsDone}
@@ -33,7 +33,7 @@ use Rattle.schedule_play.proofs.HandMoves.{may-id, may-next}
 use Rattle.schedule_play.proofs.HolderNotesHands.{put-more}
 use Rattle.schedule_play.proofs.OwnedPuts.{all-in}
 use Rattle.schedule_play.proofs.RowOwnersHands.{happened-in}
-use Rattle.schedule_play.proofs.RisenDraws.{Numbered, IsNumber, Own, Drawn, numbered}
+use Rattle.schedule_play.proofs.RisenDraws.{Numbered, IsNumber, Own, Drawn, numbered, number-least}
 
 -- a slot that was granted was granted to a claim
 granted-told : (at : BayNo) (row : RowNo) (calls : List Call) → IsIn (record { bay = at; row = row }) (past_of calls).granted → Happened (λ c. IsClaim at row c × IsSome (grant_of c.answer.reply)) calls
@@ -131,17 +131,22 @@ module _ (script : Script) (is : IsScript script) (history : List Call) (host : 
       let none : IsSome (grant_of (Missing floor)) = subst (λ (r : Reply). IsSome (grant_of r)) said some in
       absurd (let bad : false ≡ true = none in cc)
 
-  -- what it puts next has a number above what it was shown, or is its id
-  pub number-above : (call : Call) → next_errand steps ≡ Some (errand_of call) → (row : RowNo) (id n : Number) (cell : Cell) → call.ask.what ≡ Put row id n cell → (c : Call) → IsIn c (calls_at script history host) →
-      (k : Number) → ShowsNumber c.answer.reply k → (script.mode ≡ Order → kind_of h.hand.task ≡ Plain → k.0 < h.hand.id.0) → k.0 < n.0
-  number-above call asked row id n cell what c i k shown late =
+  -- what it puts next has a number that is its id, or is above that and above what it was shown
+  put-numbered : (call : Call) → next_errand steps ≡ Some (errand_of call) → (row : RowNo) (id n : Number) (cell : Cell) → call.ask.what ≡ Put row id n cell →
+      (past : Past) × IsNumber h.hand.id script.mode (kind_of h.hand.task) past (Now).calls n
+  put-numbered call asked row id n cell what =
+      let x : Numbered script.n h.hand.id script.mode (kind_of h.hand.task) host (Now).calls (record { seen = (Now).seen; steps = steps }) = numbered script is host Now steps h.hand in
       let may : MayAsk script.n h.hand.id x.past call.bay (Put row id n cell) =
       subst (λ (w : Request). MayAsk script.n h.hand.id x.past call.bay w) what (may-next script.n h.hand.id x.past steps (errand_of call) x.keeps asked) in
-      by (x.number n may.2).is
-    where
-      x : Numbered script.n h.hand.id script.mode (kind_of h.hand.task) host (Now).calls (record { seen = (Now).seen; steps = steps })
-      x = numbered script is host Now steps h.hand
+      (x.past, (x.number n may.2).is)
 
-      by : IsNumber h.hand.id script.mode (kind_of h.hand.task) x.past (Now).calls n → k.0 < n.0
-      by (Own same order plain) = let less = late order plain in let one : n.0 ≡ h.hand.id.0 = ap (λ (y : Number). y.0) same in omega (arith, less, one)
-      by (Drawn later above all) = all-in (λ (y : Call). (m : Number) → ShowsNumber y.answer.reply m → m.0 < n.0) c (Now).calls all i k shown
+  pub id-least : (call : Call) → next_errand steps ≡ Some (errand_of call) → (row : RowNo) (id n : Number) (cell : Cell) → call.ask.what ≡ Put row id n cell → h.hand.id.0 ≤ n.0
+  id-least call asked row id n cell what = number-least (put-numbered call asked row id n cell what).1
+
+  pub number-above : (call : Call) → next_errand steps ≡ Some (errand_of call) → (row : RowNo) (id n : Number) (cell : Cell) → call.ask.what ≡ Put row id n cell → (c : Call) → IsIn c (calls_at script history host) →
+      (k : Number) → ShowsNumber c.answer.reply k → (script.mode ≡ Order → kind_of h.hand.task ≡ Plain → k.0 < h.hand.id.0) → k.0 < n.0
+  number-above call asked row id n cell what c i k shown late = let x = put-numbered call asked row id n cell what in by x.0 x.1
+    where
+      by : (past : Past) → IsNumber h.hand.id script.mode (kind_of h.hand.task) past (Now).calls n → k.0 < n.0
+      by past (Own same order plain) = let less = late order plain in let one : n.0 ≡ h.hand.id.0 = ap (λ (y : Number). y.0) same in omega (arith, less, one)
+      by past (Drawn later above all) = all-in (λ (y : Call). (m : Number) → ShowsNumber y.answer.reply m → m.0 < n.0) c (Now).calls all i k shown

@@ -1,7 +1,6 @@
 -- What an attempt that holds the parity of a row was shown covers the writes that stand: those of the parity by its claim of the
 -- parity, and those of a unit by its claim of the unit, but for its own put of the unit.
 use Rattle.std.proofs.Common.{◌≡◌, ◌⊎◌, inl, inr, sym, ap, subst, ◌∙◌, ℕ, ◌+◌, ◌<◌, List, [], ◌∷◌, Option, Some, None, IsSome, is_some, arith}
-use Rattle.std.proofs.lemmas.Nat.{mod_below}
 use Rattle.raid_base.specs.declared.numbers.BayNo.{BayNo}
 use Rattle.raid_base.specs.declared.numbers.HostNo.{HostNo}
 use Rattle.raid_base.specs.declared.numbers.RowNo.{RowNo}
@@ -13,11 +12,12 @@ use Rattle.raid_base.specs.declared.messages.Call.{Call}
 use Rattle.raid_base.specs.declared.jobs.Task.{Task}
 use Rattle.raid_base.specs.Replies.{grant_of}
 use Rattle.raid_base.specs.Steps.{Steps, next_errand, errand_of}
-use Rattle.stripe_layout.specs.Placement.{parity_at, parity_bay, bay_of}
+use Rattle.stripe_layout.specs.Placement.{parity_bay, bay_of}
 use Rattle.stripe_layout.proofs.LayoutLemmas.{parity_in}
 use Rattle.slot_rules.specs.Slots.{Slot}
 use Rattle.attempts.specs.Taking.{Finish}
 use Rattle.attempts.specs.Phases.{IsIn}
+use Rattle.attempts.proofs.RoomLemmas.{bay-below}
 use Rattle.script_text.specs.Script.{Script}
 use Rattle.script_text.specs.Ranges.{IsScript}
 use Rattle.host_engine.specs.Calls.{Happened, row_of, id_of, IsClaim, IsPut, IsDone}
@@ -27,7 +27,6 @@ use Rattle.schedule_play.specs.RowStates.{slot_at, cell_at}
 use Rattle.schedule_play.specs.Laws.{writes}
 use Rattle.schedule_play.specs.Hands.{HasHand, calls_at, IsRecoveryOf}
 use Rattle.schedule_play.specs.Holding.{HasNote, CameFrom, Owns}
-use Rattle.schedule_play.proofs.AccessIds.{starts-first}
 use Rattle.schedule_play.proofs.AnsweredFreeHands.{parity-claimed}
 use Rattle.schedule_play.proofs.AnsweredFreeNotes.{Takes, note-came}
 use Rattle.schedule_play.proofs.HandClaims.{claimed-taken, next-untaken}
@@ -40,6 +39,7 @@ use Rattle.schedule_play.proofs.ContentSlots.{put-filled}
 use Rattle.schedule_play.proofs.ContentRows.{stands}
 use Rattle.schedule_play.proofs.ContentWriteFacts.{Opens, came-before, one-origin, put-bares}
 use Rattle.schedule_play.proofs.RisingClaims.{WriteMove, Quiet, Wrote, write-moved, Covering, claim-covers}
+use Rattle.schedule_play.proofs.BayRows.{starts-first}
 
 module _ (script : Script) (is : IsScript script) (row : RowNo) (below : row.0 < script.rows) where
   abbrev P : BayNo
@@ -61,7 +61,7 @@ module _ (script : Script) (is : IsScript script) (row : RowNo) (below : row.0 <
   ParityShown id ns calls = Happened (λ c. IsClaim P row c × (id_of c.ask.what ≡ Some id) × Covering script.mode c ns) calls
 
   pub parity-covered : (history : List Call) → IsHistory script history → (id : Number) → Has id history → ParityShown id (writes P row history) history
-  parity-covered [] along id from = absurd (subst (λ (s : Slot). CameFrom id s.note) (starts-first script is P row below) from)
+  parity-covered [] along id from = absurd (subst (λ (s : Slot). CameFrom id s.note) (starts-first script P row below) from)
   parity-covered (call ∷ earlier) along id from = by (parity-covered earlier along.0 id) (came-before script is row below earlier call along id from)
     where
       by : (Has id earlier → ParityShown id (writes P row earlier) earlier) → Has id earlier ⊎ Opens script is row below earlier call along id → ParityShown id (writes P row (call ∷ earlier)) (call ∷ earlier)
@@ -93,9 +93,6 @@ module _ (script : Script) (is : IsScript script) (row : RowNo) (below : row.0 <
   module _ (unit : ℕ) (inside : unit + 1 < script.n) where
     abbrev U : BayNo
     U = bay_of script.n row unit
-
-    unit-within : (U).0 < script.n
-    unit-within = let least = is.devices_least in mod_below (parity_at script.n row + 1 + unit) script.n (omega (arith, least))
 
     -- an attempt that claims the parity has claimed no unit of the row
     pub none-claimed : (earlier : List Call) (call : Call) → IsHistory script (call ∷ earlier) → (host : HostNo) (steps : Steps Finish) (h : HasHand script earlier host steps) → next_errand steps ≡ Some (errand_of call) →
@@ -135,7 +132,7 @@ module _ (script : Script) (is : IsScript script) (row : RowNo) (below : row.0 <
         itself : call ≡ c → UnitShown id c (call ∷ earlier)
         itself same =
             inl (subst (λ (x : Call). Covering script.mode x (writes (U) row (call ∷ earlier))) same
-            (let now : IsTold id call = subst (λ (x : Call). IsTold id x) (sym same) told in claim-covers script is earlier call along (U) row unit-within below now.0 now.2))
+            (let now : IsTold id call = subst (λ (x : Call). IsTold id x) (sym same) told in claim-covers script is earlier call along (U) row (bay-below script.n row unit (let least = is.devices_least in omega (arith, least))) below now.0 now.2))
 
         first : Opens script is row below earlier call along id → IsIn c earlier → ⊥
         first opens j =
@@ -163,7 +160,7 @@ module _ (script : Script) (is : IsScript script) (row : RowNo) (below : row.0 <
     -- A recovery: the claim that found the unit missing covers its writes
     pub recovery-covered : (history : List Call) → IsHistory script history → (host : HostNo) (steps : Steps Finish) (h : HasHand script history host steps) → IsRecoveryOf row h.hand.task →
         HasNote h.hand.id (slot_at script history P row).note → (c : Call) → IsIn c (calls_at script history host) → IsClaim (U) row c → IsMissing c → Covering script.mode c (writes (U) row history)
-    recovery-covered [] along host steps h recovers noted c i claim gone = absurd (subst (λ (s : Slot). HasNote h.hand.id s.note) (starts-first script is P row below) noted)
+    recovery-covered [] along host steps h recovers noted c i claim gone = absurd (subst (λ (s : Slot). HasNote h.hand.id s.note) (starts-first script P row below) noted)
     recovery-covered (call ∷ earlier) along host steps h recovers noted c i claim gone =
         by (λ s b r n j. recovery-covered earlier along.0 host s b r n c j claim gone) (came script is earlier call along.0 along.1 host steps h)
       where
@@ -205,7 +202,7 @@ module _ (script : Script) (is : IsScript script) (row : RowNo) (below : row.0 <
             at : (call ≡ c) ⊎ IsIn c (calls_at script earlier host) → Covering script.mode c (writes (U) row (call ∷ earlier))
             at (inl same) =
                 subst (λ (x : Call). Covering script.mode x (writes (U) row (call ∷ earlier))) same
-                (claim-covers script is earlier call along (U) row unit-within below (subst (λ (x : Call). IsClaim (U) row x) (sym same) claim) (inr (subst IsMissing (sym same) gone)))
+                (claim-covers script is earlier call along (U) row (bay-below script.n row unit (let least = is.devices_least in omega (arith, least))) below (subst (λ (x : Call). IsClaim (U) row x) (sym same) claim) (inr (subst IsMissing (sym same) gone)))
             at (inr j) =
                 quiet (rest g.steps g.before (subst (λ (t : Task). IsRecoveryOf row t) (sym g.same_task) recovers)
                 (subst (λ (x : Number). HasNote x (slot_at script earlier P row).note) (sym g.same_id) (held j (note-came script is P row below earlier call along.1 h.hand.id noted))) j)

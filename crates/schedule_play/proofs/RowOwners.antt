@@ -37,10 +37,11 @@ use Rattle.schedule_play.proofs.HandMoves.{may-next, Came, Goes, Stayed, Begun, 
 use Rattle.schedule_play.proofs.SlotMoves.{SlotMove, Kept, Touched, Lost, Fitted, moved}
 use Rattle.schedule_play.proofs.SlotDoes.{IsGone, Does}
 use Rattle.schedule_play.proofs.RowOwnersSlots.{FromClaim, does-at, note-from, empty-bare, origins}
-use Rattle.schedule_play.proofs.RowOwnersHands.{other-id, stands-behind, may-before, put-to-come, confirmed-late}
+use Rattle.schedule_play.proofs.RowOwnersHands.{other-id, stands-behind, may-before, put-to-come}
 use Rattle.schedule_play.proofs.RowOwnersCalls.{IsNote, noted-by, has-noted, noted-has, putter-kind, confirm-leaves, confirm-held, confirm-missing}
 use Rattle.schedule_play.proofs.RowOwnersTasks.{seizes, Putter, OwnedAt}
 use Rattle.schedule_play.proofs.RowOwnersOthers.{others-leave}
+use Rattle.schedule_play.proofs.HolderNotesHands.{confirmed-late}
 
 module _ (kinds : ClaimsAreOfTheirKind) (script : Script) (is : IsScript script) where
   abbrev parity : RowNo → BayNo
@@ -101,7 +102,7 @@ module _ (kinds : ClaimsAreOfTheirKind) (script : Script) (is : IsScript script)
       -- it has taken all that it takes
       takes-no-more : IsIn row (past_of Calls).confirmed → (earlier-phases).past.phase ≤ 0 → ⊥
       takes-no-more confirmed early =
-          let one : 1 ≤ (past_of Calls).phase = confirmed-late row Calls confirmed in
+          let one : 1 ≤ (past_of Calls).phase = confirmed-late Calls row confirmed in
           let up = (earlier-phases).same.phase in
           absurd (omega (arith, one, up, early))
 

@@ -30,7 +30,7 @@ use Rattle.schedule_play.specs.Holding.{HasNote, IsRelease, CameFrom}
 use Rattle.schedule_play.proofs.SlotMoves.{Fitted}
 use Rattle.schedule_play.proofs.SlotDoes.{IsGone, Does, Refuses, Closes, Grants, Shows, Holds, Puts, Frees, Leaves}
 use Rattle.schedule_play.proofs.RowOwnersTrees.{IsTaking}
-use Rattle.schedule_play.proofs.RowOwnersHands.{kind_of}
+use Rattle.schedule_play.proofs.HandClaims.{kind_of}
 
 -- Notes. An open one with this id
 abbrev pub IsNote : Number → Option Note → Type 0
@@ -55,14 +55,6 @@ claimed-came ask by id mask None h = absurd h
 claimed-came ask by id mask (Some note) h = h
 
 -- Tasks by their kinds
-pub is-recovery : (task : Task) → kind_of task ≡ Seize → (row : RowNo) × (task ≡ tasks.Recover row)
-is-recovery (tasks.Recover row) e = (row, refl)
-is-recovery (tasks.Read object first count) e = absurd (cc)
-is-recovery (tasks.Write object first from count) e = absurd (cc)
-is-recovery (tasks.Lose bay) e = absurd (cc)
-is-recovery (tasks.Fit bay) e = absurd (cc)
-is-recovery (tasks.Rebuild bay) e = absurd (cc)
-
 pub is-rebuild : (task : Task) → kind_of task ≡ Mend → (bay : BayNo) × (task ≡ tasks.Rebuild bay)
 is-rebuild (tasks.Rebuild bay) e = (bay, refl)
 is-rebuild (tasks.Recover row) e = absurd (cc)

@@ -9,8 +9,6 @@ use Rattle.raid_base.specs.declared.numbers.HostNo.{HostNo}
 use Rattle.raid_base.specs.declared.numbers.RowNo.{RowNo}
 use Rattle.raid_base.specs.declared.numbers.Number.{Number}
 use Rattle.raid_base.specs.declared.numbers.Spent.{Spent}
-use Rattle.raid_base.specs.declared.messages.How.{How}
-use Rattle.raid_base.specs.declared.messages.How.TheVariants.{Plain, Seize, Mend}
 use Rattle.raid_base.specs.declared.messages.Note.{Note}
 use Rattle.raid_base.specs.declared.messages.Call.{Call}
 use Rattle.raid_base.specs.declared.messages.Errand.{Errand}
@@ -18,25 +16,20 @@ use Rattle.raid_base.specs.declared.messages.Grant.{Grant}
 use Rattle.raid_base.specs.declared.messages.Request.{Request}
 use Rattle.raid_base.specs.declared.messages.Request.TheVariants.{Share, Claim, Confirm, Put, Release, Lose, Fit}
 use Rattle.raid_base.specs.declared.messages.Reply.{Reply}
-use Rattle.raid_base.specs.declared.jobs.RowPart.{RowPart}
-use Rattle.raid_base.specs.declared.jobs.PartsFault.{PartsFault}
 use Rattle.raid_base.specs.declared.jobs.Task.{Task}
-use Rattle.raid_base.specs.declared.jobs.Task.TheVariants as tasks
 use Rattle.raid_base.specs.Numbers.{draw, seen_drawn, sees}
 use Rattle.raid_base.specs.Replies.{grant_of}
 use Rattle.raid_base.specs.Steps.{Steps, Asks, Draws, Ends, Standing, Leads, settled, behind, told, next_errand, errand_of}
 use Rattle.attempts.specs.Taking.{Finish}
 use Rattle.attempts.specs.Phases.{Slot, parity_slot, IsIn, Past, MayAsk, after, after_asking, after_number, Keeps}
-use Rattle.attempts.specs.Once.{ClaimsSo, EachClaims, ClaimsAreOfTheirKind}
-use Rattle.script_text.specs.Script.{Script, jobs_of, parts_of, blocks_of}
+use Rattle.script_text.specs.Script.{Script, jobs_of}
 use Rattle.script_text.specs.Ranges.{IsScript}
 use Rattle.host_engine.specs.Calls.{Happened, id_of, row_of, IsClaim}
-use Rattle.host_engine.specs.Hands.{InHand, HasWork, IsInHand, Led, Phased, Any, past_of}
-use Rattle.host_engine.specs.Progress.{Work, Trying, Losing, Fitting, Over, Progress, access, attempt, read_of, write_of, work_errand}
+use Rattle.host_engine.specs.Hands.{InHand, HasWork, IsInHand, Led, Any}
+use Rattle.host_engine.specs.Progress.{Work, Trying, Losing, Fitting, Over, Progress, attempt, work_errand}
 use Rattle.host_engine.specs.History.{if_taken, progress_at, bay_at, IsNext, IsHistory}
 use Rattle.host_engine.proofs.Attempting.{hand-at, asked-errand, own-errand}
 use Rattle.host_engine.proofs.BoundsTakes.{before_start}
-use Rattle.host_engine.proofs.PhasedHands.{phased}
 use Rattle.host_engine.proofs.HandSteps.{GoesOn, jobs-bare, takes-after}
 use Rattle.schedule_play.specs.RowStates.{slot_at}
 use Rattle.schedule_play.specs.Hands.{HasHand, calls_at}
@@ -45,62 +38,8 @@ use Rattle.schedule_play.specs.Holding.{MayPutTo, origin_of}
 use Rattle.schedule_play.proofs.AccessHosts.{this-id}
 use Rattle.schedule_play.proofs.AccessIds.{ids_are_apart}
 use Rattle.schedule_play.proofs.MissingBays.{asks-rows, every-host}
-use Rattle.schedule_play.proofs.HandMoves.{may-id, may-next, asked-id, Came, Goes, Stayed, Begun, Went, came}
+use Rattle.schedule_play.proofs.HandMoves.{may-next, asked-id, Came, Goes, Stayed, Begun, Went, came, next-id}
 use Rattle.schedule_play.proofs.RowOwnersSlots.{FromClaim, note-from, life-kept, claim-life}
-
--- Claims. The way in which the attempt of a task claims
-abbrev pub kind_of : Task → How
-kind_of (tasks.Recover row) = Seize
-kind_of (tasks.Rebuild bay) = Mend
-kind_of _ = Plain
-
-module _ (n : ℕ) (kind : How) (host : HostNo) where
-  settled-claims : (seen : Number) (s : Steps Finish) → EachClaims n kind s → EachClaims n kind (settled host seen s).steps
-  settled-claims seen (Asks e t c k) h = h
-  settled-claims seen (Draws k) h = settled-claims (seen_drawn seen (draw host seen)) (k (draw host seen)) (h (draw host seen))
-  settled-claims seen (Ends f) h = h
-
-  told-claims : (seen : Number) (call : Call) (s : Steps Finish) → EachClaims n kind s → next_errand s ≡ Some (errand_of call) →
-      ClaimsSo n kind call.bay call.ask.what × EachClaims n kind (settled host seen (behind s call.answer.reply)).steps
-  told-claims seen call (Asks e t c k) h asked =
-      let is : e ≡ errand_of call = cc in
-      (subst (λ (x : Errand). ClaimsSo n kind x.bay x.request) is h.0, settled-claims seen (k call.answer.reply) (h.1 call.answer.reply))
-  told-claims seen call (Draws k) h asked = absurd (cc)
-  told-claims seen call (Ends f) h asked = absurd (cc)
-
-  led-claims : (start : Standing Finish) (calls : List Call) (now : Standing Finish) → EachClaims n kind start.steps → Led host start calls now →
-      EachClaims n kind now.steps × AllByRecursion (λ (call : Call). ClaimsSo n kind call.bay call.ask.what) calls
-  led-claims start [] now h led = (subst (λ (x : Standing Finish). EachClaims n kind x.steps) led h, tt)
-  led-claims start (call ∷ earlier) now h (before, led, asked, fit, later) =
-      let so_far = led-claims start earlier before h led in
-      let next = told-claims (sees before.seen call.answer.reply) call before.steps so_far.0 asked in
-      (subst (λ (x : Standing Finish). EachClaims n kind x.steps) later next.1, (next.0, so_far.1))
-
-module _ (kinds : ClaimsAreOfTheirKind) (script : Script) (host : HostNo) (id : Number) where
-  reads-claim : (r : Result (List RowPart) PartsFault) → EachClaims script.n Plain (read_of script id r)
-  reads-claim (Ok parts) = kinds.0 (access script id parts [])
-  reads-claim (Err fault) = tt
-
-  writes-claim : (blocks : List (List ℕ)) (r : Result (List RowPart) PartsFault) → EachClaims script.n Plain (write_of script id blocks r)
-  writes-claim blocks (Ok parts) = kinds.1 (access script id parts blocks)
-  writes-claim blocks (Err fault) = tt
-
-  attempt-claims : (row : ℕ) (task : Task) → EachClaims script.n (kind_of task) (attempt script host id row task)
-  attempt-claims row (tasks.Read object first count) = reads-claim (parts_of script object first count)
-  attempt-claims row (tasks.Write object first from count) = writes-claim (blocks_of script from count) (parts_of script object first count)
-  attempt-claims row (tasks.Recover at) = kinds.3 (record { n = script.n; host = host; id = id; row = at })
-  attempt-claims row (tasks.Rebuild bay) = kinds.2 (record { n = script.n; id = id; row = record { 0 = row }; target = bay })
-  attempt-claims row (tasks.Lose bay) = tt
-  attempt-claims row (tasks.Fit bay) = tt
-
--- each claim of an attempt in hand is of its kind
-pub hand-claims : ClaimsAreOfTheirKind → (script : Script) (history : List Call) (host : HostNo) (steps : Steps Finish) (h : HasHand script history host steps) →
-    AllByRecursion (λ (call : Call). ClaimsSo script.n (kind_of h.hand.task) call.bay call.ask.what) (calls_at script history host)
-hand-claims kinds script history host steps h =
-    let p : Progress = progress_at script host history in
-    let s : Steps Finish = attempt script host h.hand.id p.row h.hand.task in
-    (led-claims script.n (kind_of h.hand.task) host (settled host h.hand.id s) p.calls (record { seen = p.seen; steps = steps })
-    (settled-claims script.n (kind_of h.hand.task) host h.hand.id s (attempt-claims kinds script host h.hand.id p.row h.hand.task)) h.hand.led).1
 
 -- Calls. What has happened is a call
 pub happened-in : {P : Call → Type 0} (calls : List Call) → Happened P calls → (call : Call) × IsIn call calls × P call
@@ -127,17 +66,12 @@ happened-with {P} id named (call ∷ calls) (inr h) = by (is_id id (id_of call.a
     by false rest = rest
 
 module _ (script : Script) (is : IsScript script) where
-  pub next-id : (history : List Call) (host : HostNo) (steps : Steps Finish) (h : HasHand script history host steps) (e : Errand) → next_errand steps ≡ Some e → id_of e.request ≡ Some h.hand.id
-  next-id history host steps h e asked =
-      let f : Phased script.n h.hand.id (calls_at script history host) steps = phased script is host (progress_at script host history) steps h.hand in
-      may-id script.n h.hand.id f.past e.bay e.request (may-next script.n h.hand.id f.past steps e f.keeps asked)
-
   -- what happened with its id has happened in its calls
   pub happened-own : {P : Call → Type 0} (history : List Call) → IsHistory script history → (host : HostNo) (steps : Steps Finish) (h : HasHand script history host steps) (e : Errand) → next_errand steps ≡ Some e →
       ((call : Call) → P call → id_of call.ask.what ≡ Some h.hand.id) → Happened P history → Happened P (calls_at script history host)
   happened-own {P} history along host steps h e asked named happened =
       let work : work_errand (progress_at script host history).work ≡ Some e = subst (λ (w : Work). work_errand w ≡ Some e) (sym h.work) asked in
-      subst (λ (calls : List Call). Happened P calls) ((ids_are_apart script history is along).in_hand host e h.hand.id work (next-id history host steps h e asked))
+      subst (λ (calls : List Call). Happened P calls) ((ids_are_apart script history is along).in_hand host e h.hand.id work (next-id script is history host steps h e asked))
       (happened-with h.hand.id named history happened)
 
   -- the attempt that asked
@@ -366,18 +300,3 @@ module _ (n : ℕ) (id : Number) (host : HostNo) where
       let found = leads-onward calls now later past h leads in
       let may : MayAsk n id found.0 at (Put row id k cell) = may-next n id found.0 later.steps (record { bay = at; request = Put row id k cell }) found.1 put in
       (λ i. may.3.parity_last (found.2.put (parity_slot n row) i), λ late. (let low = may.1 in let high = found.2.free late in omega (arith, low, high)))
-
--- an attempt that has confirmed a row takes no more
-pub confirmed-late : (row : RowNo) (calls : List Call) → IsIn row (past_of calls).confirmed → 1 ≤ (past_of calls).phase
-confirmed-late row [] i = absurd i
-confirmed-late row (call ∷ calls) i = by call.ask.what i (confirmed-late row calls)
-  where
-    by : (what : Request) → IsIn row (after_asking (past_of calls) call.bay what call.answer.reply).confirmed → (IsIn row (past_of calls).confirmed → 1 ≤ (past_of calls).phase) →
-        1 ≤ (after_asking (past_of calls) call.bay what call.answer.reply).phase
-    by (Share r id want) i before = before i
-    by (Claim r id how mask want) i before = before i
-    by (Confirm r id want) i before = omega arith
-    by (Put r id n cell) i before = omega arith
-    by (Release r id n) i before = omega arith
-    by Lose i before = before i
-    by Fit i before = before i

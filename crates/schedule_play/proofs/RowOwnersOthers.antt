@@ -39,9 +39,10 @@ use Rattle.schedule_play.proofs.HandMoves.{asked-id}
 use Rattle.schedule_play.proofs.SlotMoves.{SlotMove, Kept, Touched, Lost, Fitted, moved}
 use Rattle.schedule_play.proofs.RowOwnersTrees.{IsGranted, HasClaimed, AreAnswered, HasSeizedNone, MayFree}
 use Rattle.schedule_play.proofs.RowOwnersSlots.{does-at, origins}
-use Rattle.schedule_play.proofs.RowOwnersHands.{kind_of, happened-in, Asker, asker, other-id, own-note, grants-live, may-asks}
-use Rattle.schedule_play.proofs.RowOwnersCalls.{IsNote, noted-by, noted-has, came-noted, is-recovery, is-rebuild, putter-kind, some-of, unit-in, taking-puts, taking-frees, owned-after}
+use Rattle.schedule_play.proofs.RowOwnersHands.{happened-in, Asker, asker, other-id, own-note, grants-live, may-asks}
+use Rattle.schedule_play.proofs.RowOwnersCalls.{IsNote, noted-by, noted-has, came-noted, is-rebuild, putter-kind, some-of, unit-in, taking-puts, taking-frees, owned-after}
 use Rattle.schedule_play.proofs.RowOwnersTasks.{seizes, mends, recovery-asks, rebuild-asks, Putter}
+use Rattle.schedule_play.proofs.HandClaims.{kind_of, seize-recovers}
 
 module _ (blank : BlankNotesMend) (free : AnsweredAreFree) (keep : HoldersKeepNotes) (kinds : ClaimsAreOfTheirKind) (script : Script) (is : IsScript script) where
   abbrev parity : RowNo → BayNo
@@ -99,7 +100,7 @@ module _ (blank : BlankNotesMend) (free : AnsweredAreFree) (keep : HoldersKeepNo
 
         -- where the note came from the putter a recovery has seized it
         recovery : CameFrom h.hand.id (ParitySlot).note → (at : RowNo) × (x.hand.hand.task ≡ tasks.Recover at)
-        recovery from = is-recovery x.hand.hand.task (one (origins script is earlier along.0 (parity row) row below note.0 note.1))
+        recovery from = seize-recovers x.hand.hand.task (sym (one (origins script is earlier along.0 (parity row) row below note.0 note.1)))
           where
             one : (note.0.origin ≡ note.0.id) ⊎ Happened (IsSeizure note.0.host note.0.id) earlier → kind_of x.hand.hand.task ≡ Seize
             one (inl own_origin) = absurd (apart by named (sym note.2 ∙ sym own_origin ∙ came-noted (ParitySlot).note h.hand.id note.0 note.1 from))

@@ -13,11 +13,11 @@ use Rattle.raid_base.specs.declared.messages.Grant.{Grant}
 use Rattle.raid_base.specs.declared.messages.Request.{Request}
 use Rattle.raid_base.specs.declared.messages.Request.TheVariants.{Claim, Lose, Fit}
 use Rattle.raid_base.specs.declared.messages.Reply.{Reply}
-use Rattle.raid_base.specs.declared.messages.Reply.TheVariants.{Granted, Busy, Late, Young, Missing, Held, NoNote, Done, Fault, Emptied, Fitted}
+use Rattle.raid_base.specs.declared.messages.Reply.TheVariants.{Fitted}
 use Rattle.raid_base.specs.Replies.{grant_of, is_fault}
 use Rattle.slot_rules.specs.Slots.{Slot, Bay}
 use Rattle.slot_rules.specs.Rules.{note_id, wanted_cell, granted}
-use Rattle.slot_rules.specs.Laws.{is_refused, claimed_note}
+use Rattle.slot_rules.specs.Laws.{claimed_note}
 use Rattle.script_text.specs.Script.{Script}
 use Rattle.script_text.specs.Ranges.{IsScript}
 use Rattle.host_engine.specs.Calls.{Happened, row_of, is_row, is_at, IsClaim}
@@ -25,9 +25,10 @@ use Rattle.host_engine.specs.History.{bay_at, IsNext, IsHistory}
 use Rattle.schedule_play.specs.RowStates.{slot_at}
 use Rattle.schedule_play.specs.Leftovers.{IsSeizure}
 use Rattle.schedule_play.specs.Holding.{origin_of}
-use Rattle.schedule_play.proofs.AccessIds.{starts-first}
 use Rattle.schedule_play.proofs.SlotMoves.{SlotMove, Kept, Touched, Lost, Fitted, outcome_at, moved}
-use Rattle.schedule_play.proofs.SlotDoes.{Does, Refuses, Closes, Grants, Shows, Holds, Puts, Frees, Leaves, Claims, slot-does}
+use Rattle.schedule_play.proofs.SlotDoes.{Does, Refuses, Closes, Grants, Shows, Holds, Puts, Frees, Leaves, Claims, slot-does, refused-none}
+use Rattle.schedule_play.proofs.SameNumbers.{same-some}
+use Rattle.schedule_play.proofs.BayRows.{starts-first}
 
 -- a granted claim of the row made the note
 pub record FromClaim (ask : Ask) (row : RowNo) (old : Option Note) (what : Request) (reply : Reply) (note : Note) : Type 0 where
@@ -46,9 +47,6 @@ claimed-facts : (ask : Ask) (id : Number) (mask : ℕ) (old : Option Note) (note
     (id ≡ note.id) × (ask.host ≡ note.host) × (note.origin ≡ origin_of note.id old)
 claimed-facts ask id mask None note e = (ap (λ (x : Note). x.id) e, ap (λ (x : Note). x.host) e, subst (λ (x : Note). x.origin ≡ x.id) e refl)
 claimed-facts ask id mask (Some was) note e = (ap (λ (x : Note). x.id) e, ap (λ (x : Note). x.host) e, ap (λ (x : Note). x.origin) (sym e))
-
-same-some : {X : Type 0} (x y : X) → Some x ≡ Some y → x ≡ y
-same-some x y e = cc
 
 module _ (bay : Bay) (ask : Ask) (slot : Slot) (row : RowNo) where
   from-grant : (r : RowNo) (id : Number) (how : How) (mask : ℕ) (want : Bool) (reply : Reply) (left : Slot) → Claims bay ask slot id how mask want reply left → row_of (Claim r id how mask want) ≡ Some row →
@@ -83,20 +81,7 @@ module _ (bay : Bay) (ask : Ask) (slot : Slot) (row : RowNo) where
 
   -- a claim that was granted tells the life of the bay
   does-grant : (what : Request) (reply : Reply) (left : Slot) → Does bay ask slot what reply left → (grant : Grant) → grant_of reply ≡ Some grant → grant.life ≡ bay.life
-  does-grant what reply left (Refuses r refused missing) grant is = absurd (refused-none r refused is)
-    where
-      refused-none : (r : Reply) → is_refused r ≡ true → grant_of r ≡ Some grant → ⊥
-      refused-none (Granted cell read_no write_no last life seized) refused is = absurd (cc)
-      refused-none (Busy holder) refused is = absurd (cc)
-      refused-none (Late above) refused is = absurd (cc)
-      refused-none (Young note) refused is = absurd (cc)
-      refused-none (Missing floor) refused is = absurd (cc)
-      refused-none (Held cell) refused is = absurd (cc)
-      refused-none (NoNote life) refused is = absurd (cc)
-      refused-none Done refused is = absurd (cc)
-      refused-none Fault refused is = absurd (cc)
-      refused-none Emptied refused is = absurd (cc)
-      refused-none Fitted refused is = absurd (cc)
+  does-grant what reply left (Refuses r refused missing) grant is = absurd (let bad : None ≡ Some grant = sym (refused-none r refused) ∙ is in cc)
   does-grant what reply left (Closes there none) grant is = absurd (let bad : None ≡ Some grant = is in cc)
   does-grant what reply left (Grants {want} claims) grant is = lives slot.note claims.reply
     where
@@ -207,7 +192,7 @@ module _ (script : Script) (is : IsScript script) where
   pub origins : (history : List Call) → IsHistory script history → (at : BayNo) (row : RowNo) → row.0 < script.rows → (note : Note) → (slot_at script history at row).note ≡ Some note →
       (note.origin ≡ note.id) ⊎ Happened (IsSeizure note.host note.id) history
   origins [] along at row below note noted =
-      absurd (let bad : None ≡ Some note = ap (λ (s : Slot). s.note) (sym (starts-first script is at row below)) ∙ noted in cc)
+      absurd (let bad : None ≡ Some note = ap (λ (s : Slot). s.note) (sym (starts-first script at row below)) ∙ noted in cc)
   origins (call ∷ earlier) along at row below note noted = by (origins earlier along.0 at row below note) (note-from earlier call along.1 at row below note noted)
     where
       later : (note.origin ≡ note.id) ⊎ Happened (IsSeizure note.host note.id) earlier → (note.origin ≡ note.id) ⊎ Happened (IsSeizure note.host note.id) (call ∷ earlier)

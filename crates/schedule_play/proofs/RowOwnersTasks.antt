@@ -30,7 +30,8 @@ use Rattle.schedule_play.specs.Hands.{HasHand, calls_at, IsPutter}
 use Rattle.schedule_play.specs.Leftovers.{IsSeizure}
 use Rattle.schedule_play.specs.Holding.{HasNote, IsMendClaim, MayPutTo, Owns}
 use Rattle.schedule_play.proofs.RowOwnersTrees.{Asking, next-asking, settled-asking, led-asking, MendAsks, rebuilds-ask, RecoverAsks, recoveries-ask}
-use Rattle.schedule_play.proofs.RowOwnersHands.{kind_of, hand-claims, happened-all, happened-own}
+use Rattle.schedule_play.proofs.RowOwnersHands.{happened-all, happened-own}
+use Rattle.schedule_play.proofs.HandClaims.{kind_of, hand-claims}
 
 module _ (kinds : ClaimsAreOfTheirKind) (script : Script) (is : IsScript script) where
   module _ (history : List Call) (along : IsHistory script history) (host : HostNo) (steps : Steps Finish) (h : HasHand script history host steps) (e : Errand) (asks : next_errand steps ≡ Some e) where
@@ -41,7 +42,7 @@ module _ (kinds : ClaimsAreOfTheirKind) (script : Script) (is : IsScript script)
     pub seizes : (of : HostNo) (id : Number) → id ≡ h.hand.id → Happened (IsSeizure of id) history → kind_of h.hand.task ≡ Seize
     seizes of id same seized =
         let mine = happened-own script is history along host steps h e asks (λ c k. ap (λ (w : Request). id_of w) k.4 ∙ ap (λ (x : Number). Some x) same) seized in
-        let found = happened-all (calls_at script history host) mine (hand-claims kinds script history host steps h) in
+        let found = happened-all (calls_at script history host) mine (hand-claims script is history host steps h).made in
         let so : ClaimsSo script.n (kind_of h.hand.task) found.0.bay (Claim found.2.1 id Seize found.2.2 found.2.3) =
         subst (λ (w : Request). ClaimsSo script.n (kind_of h.hand.task) found.0.bay w) found.2.4 found.3 in
         sym so.0
@@ -50,7 +51,7 @@ module _ (kinds : ClaimsAreOfTheirKind) (script : Script) (is : IsScript script)
     pub mends : (at : BayNo) (row : RowNo) (note : Note) → note.id ≡ h.hand.id → Happened (IsMendClaim at row note) history → kind_of h.hand.task ≡ Mend
     mends at row note same mended =
         let mine = happened-own script is history along host steps h e asks (λ c k. ap (λ (w : Request). id_of w) k.4 ∙ ap (λ (x : Number). Some x) same) mended in
-        let found = happened-all (calls_at script history host) mine (hand-claims kinds script history host steps h) in
+        let found = happened-all (calls_at script history host) mine (hand-claims script is history host steps h).made in
         let so : ClaimsSo script.n (kind_of h.hand.task) found.0.bay (Claim row note.id Mend found.2.2 found.2.3) =
         subst (λ (w : Request). ClaimsSo script.n (kind_of h.hand.task) found.0.bay w) found.2.4 found.3 in
         sym so.0

@@ -223,7 +223,7 @@ answers missing bay Emptied fit e = absurd (cc)
 answers missing bay Fitted fit e = absurd (cc)
 
 -- and one that refuses wasn't granted
-refuses-grant : (missing : Option BayNo) (bay : BayNo) (reply : Reply) (keep : Option Grant → Taken) (grant : Grant) → option_map keep (unless (refusal None missing bay reply) (grant_of reply)) ≡ None →
+pub refuses-grant : (missing : Option BayNo) (bay : BayNo) (reply : Reply) (keep : Option Grant → Taken) (grant : Grant) → option_map keep (unless (refusal None missing bay reply) (grant_of reply)) ≡ None →
     grant_of reply ≡ Some grant → ⊥
 refuses-grant missing bay (Granted cell read_no write_no last life seized) keep grant e is = absurd (cc)
 refuses-grant missing bay (Missing floor) keep grant e is = absurd (cc)
@@ -237,7 +237,7 @@ refuses-grant missing bay Fault keep grant e is = absurd (cc)
 refuses-grant missing bay Emptied keep grant e is = absurd (cc)
 refuses-grant missing bay Fitted keep grant e is = absurd (cc)
 
-not-seized : (grant : Grant) → is_seized grant ≡ false → grant.seized ≡ None
+pub not-seized : (grant : Grant) → is_seized grant ≡ false → grant.seized ≡ None
 not-seized grant e = by grant.seized e
   where
     by : (o : Option Note) → is_some o ≡ false → o ≡ None

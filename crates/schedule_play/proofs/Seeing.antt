@@ -8,7 +8,6 @@ use Rattle.raid_base.specs.declared.numbers.RowNo.{RowNo}
 use Rattle.raid_base.specs.declared.numbers.Number.{Number}
 use Rattle.raid_base.specs.declared.cells.Cell.{Cell}
 use Rattle.raid_base.specs.declared.cells.Content.{Content}
-use Rattle.raid_base.specs.declared.cells.Content.TheVariants.{Bytes}
 use Rattle.raid_base.specs.declared.messages.Call.{Call}
 use Rattle.raid_base.specs.declared.messages.Mode.{Mode}
 use Rattle.raid_base.specs.declared.messages.Mode.TheVariants.{Lock, Order}
@@ -16,7 +15,6 @@ use Rattle.raid_base.specs.declared.messages.Note.{Note}
 use Rattle.raid_base.specs.declared.messages.Reply.{Reply}
 use Rattle.raid_base.specs.declared.messages.Request.{Request}
 use Rattle.raid_base.specs.declared.messages.Request.TheVariants.{Share, Claim, Confirm, Put, Release, Lose, Fit}
-use Rattle.raid_base.specs.Cells.{zeros}
 use Rattle.raid_base.specs.Steps.{Commit}
 use Rattle.stripe_layout.specs.Placement.{parity_bay, bay_of}
 use Rattle.row_plans.specs.Plans.{parity_of}
@@ -43,12 +41,9 @@ use Rattle.schedule_play.proofs.ReadSlots.{ReadAt, read-at}
 use Rattle.schedule_play.proofs.Rising.{facts}
 use Rattle.schedule_play.proofs.RisingCommits.{TakesOne, taken-moved}
 use Rattle.schedule_play.proofs.Risen.{numbers_rise}
+use Rattle.schedule_play.proofs.Latest.{newest}
 
 -- Lists of contents, the newest first
-abbrev pub newest : List Taken → Content
-newest [] = Bytes zeros
-newest (t ∷ ts) = t.content
-
 pub skips : (n : ℕ) (t : Taken) (ts : List Taken) → n < t.number.0 → newest_below n (t ∷ ts) ≡ newest_below n ts
 skips n t ts less = by (nat_lt t.number.0 n) refl
   where

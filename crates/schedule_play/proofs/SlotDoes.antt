@@ -11,10 +11,12 @@ use Rattle.raid_base.specs.declared.messages.How.TheVariants.{Plain, Seize, Mend
 use Rattle.raid_base.specs.declared.messages.Note.{Note}
 use Rattle.raid_base.specs.declared.messages.Ask.{Ask}
 use Rattle.raid_base.specs.declared.messages.Reply.{Reply}
-use Rattle.raid_base.specs.declared.messages.Reply.TheVariants.{Busy, Late, Young, Missing, Held, NoNote, Done, Fault}
+use Rattle.raid_base.specs.declared.messages.Reply.TheVariants.{Busy, Late, Young, Missing, Held, NoNote, Done, Fault, Granted, Emptied, Fitted}
 use Rattle.raid_base.specs.declared.messages.Request.{Request}
 use Rattle.raid_base.specs.declared.messages.Request.TheVariants.{Share, Claim, Confirm, Put, Release, Lose, Fit}
 use Rattle.raid_base.specs.Numbers.{greater}
+use Rattle.raid_base.specs.Replies.{grant_of}
+use Rattle.raid_base.specs.declared.messages.Grant.{Grant}
 use Rattle.slot_rules.specs.declared.Reader.{Reader}
 use Rattle.slot_rules.specs.Slots.{Slot, Bay, reader_note}
 use Rattle.slot_rules.specs.Rules.{SlotOutcome, keeps, wanted_cell, reads, granted, slot_floor, missing_floor, may_seize, note_id, is_reader, other_readers, share_granted_lock, share_lock, share_granted_order, share_unnoted, share_order, is_same_host, share_by, share_at, claim_granted, is_late, claim_free, claim_noted, claim_at, seize_granted, seize_unread, seize_blank, young_note, seize_noted, claim_rule, confirm_missing, confirm_rule, put_done, put_rule, read_at, release_reader, release_rule}
@@ -35,6 +37,11 @@ pub record Claims (bay : Bay) (ask : Ask) (slot : Slot) (id : Number) (how : How
   pub readers : List Reader
   pub alone : readers ≡ []
   pub left : after ≡ record slot { note = Some (claimed_note ask id mask slot.note); readers = readers }
+
+-- the note of a claim has its id
+pub claimed-id : (ask : Ask) (id : Number) (mask : ℕ) (o : Option Note) → (claimed_note ask id mask o).id ≡ id
+claimed-id ask id mask None = refl
+claimed-id ask id mask (Some note) = refl
 
 -- a share that was granted
 pub record Shares (bay : Bay) (slot : Slot) (id : Number) (want : Bool) (r : Reply) (after : Slot) : Type 0 where
@@ -64,6 +71,59 @@ pub data Does (bay : Bay) (ask : Ask) (slot : Slot) : Request → Reply → Slot
   Frees : {row : RowNo} {id : Number} {n : Option Number} (own : note_id slot.note id ≡ true) → Does bay ask slot (Release row id n) Done (record slot { note = None })
   Leaves : {row : RowNo} {id : Number} {n : Option Number} (free : note_id slot.note id ≡ false) (reader : Reader) (found : find (is_reader id) slot.readers ≡ Some reader) →
       Does bay ask slot (Release row id n) Done (record slot { read_no = read_at slot n; readers = other_readers id slot.readers })
+
+-- what refuses grants nothing
+pub refused-none : (r : Reply) → is_refused r ≡ true → grant_of r ≡ None
+refused-none (Granted cell read_no write_no last life seized) e = absurd (cc)
+refused-none (Busy holder) e = refl
+refused-none (Late above) e = refl
+refused-none (Young note) e = refl
+refused-none (Missing floor) e = refl
+refused-none (Held cell) e = refl
+refused-none (NoNote life) e = refl
+refused-none Done e = refl
+refused-none Fault e = refl
+refused-none Emptied e = refl
+refused-none Fitted e = refl
+
+pub refused-grants : {X : Type 0} (r : Reply) → is_refused r ≡ true → IsSome (grant_of r) → X
+refused-grants r refused granted = absurd (let bad : false ≡ true = subst (λ (o : Option Grant). IsSome o) (refused-none r refused) granted in cc)
+
+-- a claim that was granted is one
+pub claim-does : (bay : Bay) (ask : Ask) (slot : Slot) (row : RowNo) (id : Number) (how : How) (mask : ℕ) (want : Bool) (what : Request) (reply : Reply) (left : Slot) → Does bay ask slot what reply left →
+    what ≡ Claim row id how mask want → IsSome (grant_of reply) → Claims bay ask slot id how mask want reply left
+claim-does bay ask slot row id how mask want what reply left (Refuses r refused missing) is some = refused-grants r refused some
+claim-does bay ask slot row id how mask want what reply left (Closes there none) is some = absurd (let bad : false ≡ true = some in cc)
+claim-does bay ask slot row id how mask want what reply left (Grants {row = r} {id = by} {how = h} {mask = m} {want = w} claims) is some =
+    let both : Claim r by h m w ≡ Claim row id how mask want = is in
+    let one : by ≡ id = cc in
+    let kind : h ≡ how = cc in
+    let units : m ≡ mask = cc in
+    let wants : w ≡ want = cc in
+    subst (λ (x : Number). Claims bay ask slot x how mask want reply left) one
+    (subst (λ (x : How). Claims bay ask slot by x mask want reply left) kind
+    (subst (λ (x : ℕ). Claims bay ask slot by h x want reply left) units (subst (λ (x : Bool). Claims bay ask slot by h m x reply left) wants claims)))
+claim-does bay ask slot row id how mask want what reply left (Shows shares) is some = absurd (cc)
+claim-does bay ask slot row id how mask want what reply left (Holds own) is some = absurd (cc)
+claim-does bay ask slot row id how mask want what reply left (Puts own) is some = absurd (cc)
+claim-does bay ask slot row id how mask want what reply left (Frees own) is some = absurd (cc)
+claim-does bay ask slot row id how mask want what reply left (Leaves free reader found) is some = absurd (cc)
+
+-- and so is a share
+pub share-does : (bay : Bay) (ask : Ask) (slot : Slot) (row : RowNo) (id : Number) (want : Bool) (what : Request) (reply : Reply) (left : Slot) → Does bay ask slot what reply left → what ≡ Share row id want → IsSome (grant_of reply) →
+    Shares bay slot id want reply left
+share-does bay ask slot row id want what reply left (Refuses r refused missing) is some = refused-grants r refused some
+share-does bay ask slot row id want what reply left (Closes there none) is some = absurd (cc)
+share-does bay ask slot row id want what reply left (Grants claims) is some = absurd (cc)
+share-does bay ask slot row id want what reply left (Shows {row = r} {id = by} {want = w} shares) is some =
+    let both : Share r by w ≡ Share row id want = is in
+    let one : by ≡ id = cc in
+    let same : w ≡ want = cc in
+    subst (λ (x : Number). Shares bay slot x want reply left) one (subst (λ (x : Bool). Shares bay slot by x reply left) same shares)
+share-does bay ask slot row id want what reply left (Holds own) is some = absurd (cc)
+share-does bay ask slot row id want what reply left (Puts own) is some = absurd (cc)
+share-does bay ask slot row id want what reply left (Frees own) is some = absurd (cc)
+share-does bay ask slot row id want what reply left (Leaves free reader found) is some = absurd (cc)
 
 -- where no other reader is found none is left
 none-others : (id : Number) (xs : List Reader) → find (λ reader. not (is_reader id reader)) xs ≡ None → other_readers id xs ≡ []

@@ -18,7 +18,8 @@ use Rattle.script_text.specs.Script.{Script}
 use Rattle.script_text.specs.Ranges.{IsScript}
 use Rattle.host_engine.specs.Calls.{row_of, is_row, is_at}
 use Rattle.host_engine.specs.History.{if_ruled, bay_at, IsNext}
-use Rattle.schedule_play.proofs.AccessIds.{bay-rows, same-bay}
+use Rattle.schedule_play.proofs.SameNumbers.{same-bay}
+use Rattle.schedule_play.proofs.BayRows.{bay-rows}
 
 -- what the rule makes of the slot
 abbrev pub outcome_at : Bay → RowNo → Call → SlotOutcome
@@ -44,7 +45,7 @@ module _ (script : Script) (is : IsScript script) where
     old = bay_at script at earlier
 
     within : row.0 < length old.slots
-    within = let rows : length old.slots ≡ script.rows = bay-rows script is at earlier in omega (arith, rows, below)
+    within = let rows : length old.slots ≡ script.rows = bay-rows script at earlier in omega (arith, rows, below)
 
     abbrev ruled : Bay
     ruled = (rule old call.ask (is_fault call.answer.reply)).bay

@@ -51,23 +51,24 @@ use Rattle.host_engine.proofs.PhasedHands.{found-parts}
 use Rattle.schedule_play.specs.RowStates.{slot_at}
 use Rattle.schedule_play.specs.Hands.{HasHand, calls_at}
 use Rattle.schedule_play.specs.Holding.{HasNote}
-use Rattle.schedule_play.proofs.AccessIds.{starts-first}
 use Rattle.schedule_play.proofs.AccessTrees.{IsAsked, EachAsked, settled-asked, behind-asked, next-asked, attempt-asked}
 use Rattle.schedule_play.proofs.SlotMoves.{SlotMove, Kept, Touched, Lost, Fitted, moved}
-use Rattle.schedule_play.proofs.SlotDoes.{Does, Refuses, Closes, Grants, Shows, Holds, Puts, Frees, Leaves}
-use Rattle.schedule_play.proofs.HandClaims.{Asker, asker, asker-calls, kind_of, next-kind, next-new, IsTake}
+use Rattle.schedule_play.proofs.SlotDoes.{Does, Refuses, Closes, Grants, Shows, Holds, Puts, Frees, Leaves, claimed-id}
+use Rattle.schedule_play.proofs.HandClaims.{asker-calls, kind_of, next-kind, next-new, IsTake}
 use Rattle.schedule_play.proofs.NoteUnits.{units_are_of_writes}
-use Rattle.schedule_play.proofs.AnsweredFreeNotes.{Takes, note-came, claimed-id}
+use Rattle.schedule_play.proofs.AnsweredFreeNotes.{Takes, note-came}
 use Rattle.schedule_play.proofs.AnsweredFree.{happened-map}
 use Rattle.schedule_play.proofs.HolderNotesSlots.{Claimed, claimed-by, grant_at}
 use Rattle.schedule_play.proofs.RowOwnersSlots.{does-at}
-use Rattle.schedule_play.proofs.RowOwnersHands.{happened-in, next-id}
+use Rattle.schedule_play.proofs.RowOwnersHands.{happened-in, Asker, asker}
 use Rattle.schedule_play.proofs.RowOwnersCalls.{noted-by, noted-has}
 use Rattle.schedule_play.proofs.OwnedPuts.{put-noted, all-in}
 use Rattle.schedule_play.proofs.WriteMasks.{HasMask, parts_in, hand-asks}
 use Rattle.schedule_play.proofs.CoveredPutsSlots.{origin-claimed}
 use Rattle.schedule_play.proofs.CoveredPutsHands.{no-unit}
 use Rattle.schedule_play.proofs.TornTrees.{IsWithin, Named, some-one}
+use Rattle.schedule_play.proofs.HandMoves.{next-id}
+use Rattle.schedule_play.proofs.BayRows.{starts-first}
 
 -- Masks. Those below 2 ^ width have units below width
 unit-within : (width mask unit : ℕ) → mask < 2 ^ width → has_unit mask unit ≡ true → unit < width
@@ -142,8 +143,8 @@ module _ (script : Script) (is : IsScript script) where
 
   next-narrow : (earlier : List Call) (call : Call) → IsHistory script earlier → IsNext script earlier call → IsNarrow call
   next-narrow earlier call along next row id how mask want what =
-      let a : Asker script is earlier call along next = asker script is earlier call along next row (ap (λ (w : Request). row_of w) what) in
-      hand-within earlier call.ask.host a.steps a.before call a.asked row id how mask want what
+      let a : Asker script is earlier call = asker script is earlier call along next row (ap (λ (w : Request). row_of w) what) in
+      hand-within earlier call.ask.host a.steps a.hand call a.asked row id how mask want what
 
   all-narrow : (history : List Call) → IsHistory script history → (call : Call) → IsIn call history → IsNarrow call
   all-narrow [] along call i = absurd i
@@ -174,7 +175,7 @@ module _ (script : Script) (is : IsScript script) where
     -- the mark of a slot is the id of a put that was done
     last-put : (history : List Call) → IsHistory script history → (id : Number) → 1 ≤ id.0 → (slot_at script history at row).last ≡ id → Happened (IsDonePut id) history
     last-put [] along id least last =
-        let none : number 0 ≡ id = ap (λ (s : Slot). s.last) (sym (starts-first script is at row below)) ∙ last in
+        let none : number 0 ≡ id = ap (λ (s : Slot). s.last) (sym (starts-first script at row below)) ∙ last in
         let zero_id : 0 ≡ id.0 = ap (λ (x : Number). x.0) none in
         absurd (omega (arith, least, zero_id))
     last-put (call ∷ earlier) along id least last = by (moved script is earlier call along.1 at row below) (last-put earlier along.0 id least)
@@ -249,18 +250,18 @@ module _ (script : Script) (is : IsScript script) where
     least-id [] along id mask h = absurd h
     least-id (call ∷ earlier) along id mask (inr h) = least-id earlier along.0 id mask h
     least-id (call ∷ earlier) along id mask (inl claim) =
-        let a : Asker script is earlier call along.0 along.1 = asker script is earlier call along.0 along.1 row (ap (λ (w : Request). row_of w) claim.2) in
-        let named : Some a.before.hand.id ≡ Some id = sym (next-id script is earlier call.ask.host a.steps a.before (errand_of call) a.asked) ∙ ap (λ (w : Request). id_of w) claim.2 in
-        subst (λ (x : Number). 1 ≤ x.0) (some-one named) a.before.hand.least
+        let a : Asker script is earlier call = asker script is earlier call along.0 along.1 row (ap (λ (w : Request). row_of w) claim.2) in
+        let named : Some a.hand.hand.id ≡ Some id = sym (next-id script is earlier call.ask.host a.steps a.hand (errand_of call) a.asked) ∙ ap (λ (w : Request). id_of w) claim.2 in
+        subst (λ (x : Number). 1 ≤ x.0) (some-one named) a.hand.hand.least
 
     -- a write that claimed the parity claims it no second time
     claims-again : (earlier : List Call) (call : Call) → IsHistory script earlier → IsNext script earlier call → (id : Number) (mask : ℕ) → Happened (IsWriteClaim script.n row id mask) earlier →
         (how : How) (m : ℕ) (want : Bool) → call.bay ≡ P → call.ask.what ≡ Claim row id how m want → ⊥
     claims-again earlier call along next id mask claimed how m want place what =
-        let a : Asker script is earlier call along next = asker script is earlier call along next row (ap (λ (w : Request). row_of w) what) in
+        let a : Asker script is earlier call = asker script is earlier call along next row (ap (λ (w : Request). row_of w) what) in
         let own : Happened (IsWriteClaim script.n row id mask) (calls_at script earlier call.ask.host) =
         asker-calls script is earlier call along next (IsWriteClaim script.n row id mask) id (λ c k. ap (λ (w : Request). id_of w) k.2) (ap (λ (w : Request). id_of w) what) claimed in
-        next-new script is earlier call.ask.host a.steps a.before call a.asked P row (inr (place, id, how, m, want, what))
+        next-new script is earlier call.ask.host a.steps a.hand call a.asked P row (inr (place, id, how, m, want, what))
         (happened-map (IsWriteClaim script.n row id mask) (IsTake P row) (λ c k. inr (k.0, id, Plain, mask, k.1, k.2)) (calls_at script earlier call.ask.host) own)
 
     seized-noted : (earlier : List Call) (call : Call) → IsNext script earlier call → (note : Note) → IsClaim P row call → Seizes note call → (ParityAt earlier).note ≡ Some note

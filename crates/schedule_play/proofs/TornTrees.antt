@@ -40,9 +40,9 @@ use Rattle.host_engine.specs.Calls.{Happened, IsClaim}
 use Rattle.host_engine.specs.Torn.{Seizes, ShowsLast, IsMissing, FoundTorn}
 use Rattle.host_engine.specs.Hands.{Led}
 use Rattle.schedule_play.proofs.AnsweredFree.{happened-map}
-use Rattle.schedule_play.proofs.RowOwnersTrees.{answers}
+use Rattle.schedule_play.proofs.RowOwnersTrees.{answers, what-is, bay-is}
 use Rattle.schedule_play.proofs.RowOwnersHands.{happened-in}
-use Rattle.schedule_play.proofs.RecoveryFinds.{what-is, bay-is, FoundSound, one-unit, in-units, NoClaim, Sound, shows-more, Tells, Got, apart-units, Finding, kept, finding-more, gap-at, gap-below, leaves-sound, fresh-after, taken-parity, none-yet, released-no-claim, confirmed-no-claim}
+use Rattle.schedule_play.proofs.RecoveryFinds.{FoundSound, one-unit, in-units, NoClaim, Sound, shows-more, Tells, Got, apart-units, Finding, kept, finding-more, gap-at, gap-below, leaves-sound, fresh-after, taken-parity, none-yet, released-no-claim, confirmed-no-claim}
 
 -- Whatever the calls: where the steps end, or their host stops before a request, P holds of the calls so far, the newest first,
 -- and of that end

@@ -1,6 +1,5 @@
 -- A put of a parity that gives a unit a content has a number above those of all reads of the unit's slot.
 use Rattle.std.proofs.Common.{◌≡◌, ◌⊎◌, inl, inr, refl, sym, ap, subst, ◌∙◌, ℕ, ◌+◌, ◌<◌, ◌≤◌, List, [], ◌∷◌, Option, Some, None, IsSome, is_some, arith}
-use Rattle.std.proofs.lemmas.Nat.{mod_below}
 use Rattle.raid_base.specs.declared.numbers.BayNo.{BayNo}
 use Rattle.raid_base.specs.declared.numbers.HostNo.{HostNo}
 use Rattle.raid_base.specs.declared.numbers.RowNo.{RowNo}
@@ -22,12 +21,13 @@ use Rattle.raid_base.specs.declared.jobs.Task.{Task}
 use Rattle.raid_base.specs.declared.jobs.Task.TheVariants as tasks
 use Rattle.raid_base.specs.Replies.{grant_of}
 use Rattle.raid_base.specs.Steps.{Steps, next_errand, errand_of}
-use Rattle.stripe_layout.specs.Placement.{parity_at, parity_bay, bay_of}
+use Rattle.stripe_layout.specs.Placement.{parity_bay, bay_of}
 use Rattle.slot_rules.specs.Slots.{Slot}
 use Rattle.attempts.specs.Taking.{Finish}
 use Rattle.attempts.specs.Numbering.{ShowsNumber}
 use Rattle.attempts.specs.Phases as phases
 use Rattle.attempts.specs.Phases.{IsIn, MayAsk, after_asking}
+use Rattle.attempts.proofs.RoomLemmas.{bay-below}
 use Rattle.script_text.specs.Script.{Script}
 use Rattle.script_text.specs.Ranges.{IsScript}
 use Rattle.host_engine.specs.Calls.{Happened, id_of, IsClaim}
@@ -41,7 +41,6 @@ use Rattle.schedule_play.specs.Hands.{HasHand, calls_at, IsRecoveryOf}
 use Rattle.schedule_play.specs.Holding.{HasNote, IsRelease, GivesNothing, origin_of, IsOfOpenRecovery}
 use Rattle.schedule_play.specs.Laws.{reads, AllBelow, commits_of}
 use Rattle.schedule_play.proofs.AccessCovers.{all-map}
-use Rattle.schedule_play.proofs.AccessIds.{starts-first}
 use Rattle.schedule_play.proofs.AnsweredFreeNotes.{Takes, note-came}
 use Rattle.schedule_play.proofs.HandClaims.{kind_of, Before, before-last, made-kind}
 use Rattle.schedule_play.proofs.HandMoves.{may-next, Stays, Goes, Came, Stayed, Begun, Went, came}
@@ -51,7 +50,6 @@ use Rattle.schedule_play.proofs.HolderNotesSlots.{IsGranted, grant_at, Claimed, 
 use Rattle.schedule_play.proofs.HoldingLaws.{holders_keep_notes}
 use Rattle.schedule_play.proofs.OwnedPuts.{all-in}
 use Rattle.schedule_play.proofs.RowOwnersHands.{Asker, happened-in, other-id}
-use Rattle.schedule_play.proofs.RisenDraws.{Numbered, IsNumber, Own, Drawn, numbered}
 use Rattle.schedule_play.proofs.WritePuts.{WasGone}
 use Rattle.schedule_play.proofs.CoveredPutsHands.{in-happened}
 use Rattle.schedule_play.proofs.ContentParityPuts as parities
@@ -60,21 +58,13 @@ use Rattle.schedule_play.proofs.ContentPuts.{may-put}
 use Rattle.schedule_play.proofs.ContentRows.{Stands, stands}
 use Rattle.schedule_play.proofs.ContentStates.{IsWriteTask, IsUnitPut, IsWriteHeld}
 use Rattle.schedule_play.proofs.ContentTrees.{MayPut, Writes, Rebuilds, Recovers}
-use Rattle.schedule_play.proofs.ContentWriteFacts.{own-from}
+use Rattle.schedule_play.proofs.ContentWriteFacts.{own-from, writes-plain}
 use Rattle.schedule_play.proofs.ReadSlots.{ReadMove, Quiet, Read, read-moved, ReadAt, read-at, CoversReads, claim-covers-reads, bare-unread}
 use Rattle.schedule_play.proofs.Rising as rising
 use Rattle.schedule_play.proofs.RisingCommits.{write-rises, TakesOne}
-use Rattle.schedule_play.proofs.RisingPuts.{calls-named, number-above}
+use Rattle.schedule_play.proofs.RisingPuts.{calls-named, number-above, id-least}
 use Rattle.schedule_play.proofs.RisingShown.{none-claimed}
-
--- writes claim plainly
-plain-write : (task : Task) → IsWriteTask task → kind_of task ≡ Plain
-plain-write (tasks.Write object first from count) w = refl
-plain-write (tasks.Read object first count) w = absurd w
-plain-write (tasks.Recover row) w = absurd w
-plain-write (tasks.Rebuild bay) w = absurd w
-plain-write (tasks.Lose bay) w = absurd w
-plain-write (tasks.Fit bay) w = absurd w
+use Rattle.schedule_play.proofs.BayRows.{starts-first}
 
 -- What an attempt was told by its claim of a unit: that it is missing; or it was granted to a write that gives nothing back and has
 -- not put it, or whose put of it found no note, in another life than that of the grant.
@@ -184,17 +174,6 @@ module _ (script : Script) (is : IsScript script) where
           subst (λ (w : Request). IsRelease w) what (subst (λ (e : Errand). IsRelease e.request) (sym one) release);
     }
 
-    -- and its number is its id, or above that
-    number-least : h.hand.id.0 ≤ n.0
-    number-least =
-        let x : Numbered script.n h.hand.id script.mode (kind_of h.hand.task) host (Now).calls (record { seen = (Now).seen; steps = steps }) = numbered script is host (Now) steps h.hand in
-        let may = may-put-now x.past (may-next script.n h.hand.id x.past steps (errand_of call) x.keeps asked) in
-        by x.past (x.number n may.2).is
-      where
-        by : (past : phases.Past) → IsNumber h.hand.id script.mode (kind_of h.hand.task) past (Now).calls n → h.hand.id.0 ≤ n.0
-        by past (Own same order plain) = let one : n.0 ≡ h.hand.id.0 = ap (λ (y : Number). y.0) same in omega (arith, one)
-        by past (Drawn later above all) = omega (arith, above)
-
 -- A unit of a row
 module _ (script : Script) (is : IsScript script) (row : RowNo) (below : row.0 < script.rows) (unit : ℕ) (inside : unit + 1 < script.n) where
   abbrev P : BayNo
@@ -202,9 +181,6 @@ module _ (script : Script) (is : IsScript script) (row : RowNo) (below : row.0 <
 
   abbrev U : BayNo
   U = bay_of script.n row unit
-
-  unit-within : (U).0 < script.n
-  unit-within = let least = is.devices_least in mod_below (parity_at script.n row + 1 + unit) script.n (omega (arith, least))
 
   abbrev ParityNote : List Call → Option Note
   ParityNote history = (slot_at script history P row).note
@@ -245,7 +221,7 @@ module _ (script : Script) (is : IsScript script) (row : RowNo) (below : row.0 <
         where
           named : IsClaim (U) row c → grant.seized ≡ None
           named (place, by, how, mask, want, what) =
-              let kind : how ≡ Plain = (made-kind script is earlier host steps h c i row by how mask want what).0 ∙ plain-write h.hand.task writes in
+              let kind : how ≡ Plain = (made-kind script is earlier host steps h c i row by how mask want what).0 ∙ writes-plain h.hand.task writes in
               plain-unseized script is (U) row below earlier along.0 c grant (in-history script is earlier along.0 host steps h c i) by mask want place (what ∙ ap (λ (x : How). Claim row by x mask want) kind) granted
 
       there : (cell : Cell) → cell_at script earlier row (U) ≡ Some cell → grant.life ≡ (bay_at script (U) earlier).life → Later
@@ -311,7 +287,7 @@ module _ (script : Script) (is : IsScript script) (row : RowNo) (below : row.0 <
   -- so it is from its claim on
   reads-covered : (history : List Call) → IsHistory script history → (host : HostNo) (steps : Steps Finish) (h : HasHand script history host steps) → HasNote h.hand.id (ParityNote history) → (c : Call) →
       IsIn c (calls_at script history host) → IsClaim (U) row c → Knows h.hand.task steps (calls_at script history host) c → Covers c h.hand.id history
-  reads-covered [] along host steps h noted c i claim told = absurd (subst (λ (s : Slot). HasNote h.hand.id s.note) (starts-first script is (P) row below) noted)
+  reads-covered [] along host steps h noted c i claim told = absurd (subst (λ (s : Slot). HasNote h.hand.id s.note) (starts-first script (P) row below) noted)
   reads-covered (call ∷ earlier) along host steps h noted c i claim told =
       by (λ s b n j t. reads-covered earlier along.0 host s b n c j claim t) (came script is earlier call along.0 along.1 host steps h)
     where
@@ -345,7 +321,7 @@ module _ (script : Script) (is : IsScript script) (row : RowNo) (below : row.0 <
           at : (call ≡ c) ⊎ IsIn c (calls_at script earlier host) → Covers c h.hand.id (call ∷ earlier)
           at (inl same) =
               subst (λ (x : Call). Covers x h.hand.id (call ∷ earlier)) same
-              (claim-covers-reads script is earlier call along (U) row unit-within below (subst (λ (x : Call). IsClaim (U) row x) (sym same) claim)
+              (claim-covers-reads script is earlier call along (U) row (bay-below script.n row unit (let least = is.devices_least in omega (arith, least))) below (subst (λ (x : Call). IsClaim (U) row x) (sym same) claim)
               (subst (λ (x : Call). IsSome (grant_of x.answer.reply) ⊎ IsMissing x) (sym same) (answered script.n row unit h.hand.task steps (calls_at script (call ∷ earlier) host) c told)) h.hand.id)
           at (inr j) =
               next rest g.steps g.before g.same_id
@@ -375,7 +351,7 @@ module _ (script : Script) (is : IsScript script) (row : RowNo) (below : row.0 <
     above c i cover late =
         let more : cover.number.0 < t.number.0 =
         number-above script is earlier call.ask.host (a).steps (a).hand call (a).asked row t.id t.number t.cell t.what c i cover.number cover.shown late in
-        let least : (a).hand.hand.id.0 ≤ t.number.0 = number-least script is earlier call.ask.host (a).steps (a).hand call (a).asked row t.id t.number t.cell t.what in
+        let least : (a).hand.hand.id.0 ≤ t.number.0 = id-least script is earlier call.ask.host (a).steps (a).hand call (a).asked row t.id t.number t.cell t.what in
         all-map (λ (x : Number). (x.0 ≤ cover.number.0) ⊎ (x.0 < (a).hand.hand.id.0)) (λ (x : Number). x.0 < t.number.0) (reads script (U) row earlier) (λ x low. each x more least low) cover.covers
       where
         each : (x : Number) → cover.number.0 < t.number.0 → (a).hand.hand.id.0 ≤ t.number.0 → (x.0 ≤ cover.number.0) ⊎ (x.0 < (a).hand.hand.id.0) → x.0 < t.number.0

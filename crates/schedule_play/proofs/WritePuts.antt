@@ -46,25 +46,20 @@ use Rattle.host_engine.specs.Torn.{IsMissing}
 use Rattle.schedule_play.proofs.CommittingTrees.{Committing, go-committing, run-committing}
 use Rattle.schedule_play.proofs.RecoveryFinds.{in-units}
 use Rattle.schedule_play.proofs.WriteMasks.{PutsNothing, each-is-in}
-
--- a put of a unit with this cell, and a grant of it
-abbrev pub PutsUnit : ℕ → RowNo → ℕ → Cell → Call → Type 0
-PutsUnit n row unit cell call = (call.bay ≡ bay_of n row unit) × (id : Number) × (k : Number) × (call.ask.what ≡ Put row id k cell)
-
-abbrev pub GrantsUnit : ℕ → RowNo → ℕ → Grant → Call → Type 0
-GrantsUnit n row unit grant call = IsClaim (bay_of n row unit) row call × (grant_of call.answer.reply ≡ Some grant)
+use Rattle.schedule_play.proofs.ContentStates.{IsUnitPut, IsUnitGrant}
+use Rattle.schedule_play.proofs.EffectsMade.{given-or-missing}
 
 -- a unit was missing to its claim, or its put found no note, in another life than that of its grant
 abbrev pub WasGone : ℕ → RowNo → ℕ → List Call → Type 0
 WasGone n row unit calls =
     Happened (λ call. IsClaim (bay_of n row unit) row call × IsMissing call) calls
-    ⊎ ((grant : Grant) × (life : ℕ) × (cell : Cell) × Happened (GrantsUnit n row unit grant) calls
-    × Happened (λ call. PutsUnit n row unit cell call × (call.answer.reply ≡ NoNote life)) calls × (grant.life ≡ life → ⊥))
+    ⊎ ((grant : Grant) × (life : ℕ) × (cell : Cell) × Happened (IsUnitGrant n row unit grant) calls
+    × Happened (λ call. IsUnitPut n row unit cell call × (call.answer.reply ≡ NoNote life)) calls × (grant.life ≡ life → ⊥))
 
 -- each unit that the part wants was put, with its block, or is committed now; and one that is committed now is wanted and was gone
 pub record AreSettled (a : Access) (part : RowPart) (calls : List Call) (commits : List Commit) : Type 0 where
   pub wanted : (unit : ℕ) → unit + 1 < a.n → has_unit part.mask unit ≡ true →
-      Happened (λ call. PutsUnit a.n part.row unit (plain_cell (block_at a part unit)) call × IsDone call) calls
+      Happened (λ call. IsUnitPut a.n part.row unit (plain_cell (block_at a part unit)) call × IsDone call) calls
       ⊎ IsIn (record { row = part.row; unit = unit; content = Bytes (block_at a part unit) }) commits
   pub committed : AllByRecursion (λ (c : Commit). (c.row ≡ part.row) × (c.unit + 1 < a.n) × (has_unit part.mask c.unit ≡ true)
       × (c.content ≡ Bytes (block_at a part c.unit)) × WasGone a.n part.row c.unit calls) commits
@@ -83,7 +78,7 @@ pub record WritePutsSo (a : Access) (calls : List Call) (e : Errand) (commits : 
 -- What was answered to the claim of a unit: a grant, or that it is missing
 abbrev pub ClaimFound : ℕ → RowNo → List Call → ℕ → Option Grant → Type 0
 ClaimFound n row calls unit None = Happened (λ call. IsClaim (bay_of n row unit) row call × IsMissing call) calls
-ClaimFound n row calls unit (Some grant) = Happened (GrantsUnit n row unit grant) calls
+ClaimFound n row calls unit (Some grant) = Happened (IsUnitGrant n row unit grant) calls
 
 module _ (n : ℕ) (row : RowNo) (calls : List Call) where
   found-more : (call : Call) (unit : ℕ) (o : Option Grant) → ClaimFound n row calls unit o → ClaimFound n row (call ∷ calls) unit o
@@ -96,34 +91,18 @@ module _ (n : ℕ) (row : RowNo) (calls : List Call) where
 
   -- the life of a unit that was granted is that of its grant
   found-life : (us : List ℕ) (os : List (Option Grant)) (left : List ℕ) → Filled (ClaimFound n row calls) us os left → (unit : ℕ) → IsIn unit (granted_of (zip us os)) →
-      (grant : Grant) × Happened (GrantsUnit n row unit grant) calls × (life_in unit (zip us os) ≡ grant.life)
+      (grant : Grant) × Happened (IsUnitGrant n row unit grant) calls × (life_in unit (zip us os) ≡ grant.life)
   found-life [] os left f unit i = absurd i
   found-life (u ∷ us) [] left f unit i = absurd i
   found-life (u ∷ us) (None ∷ os) left f unit i = found-life us os left f.1 unit i
   found-life (u ∷ us) (Some found ∷ os) left f unit i = by (u == unit) refl i (λ j. found-life us os left f.1 unit j)
     where
       by : (b : Bool) → (u == unit) ≡ b → (u ≡ unit) ⊎ IsIn unit (granted_of (zip us os)) →
-          (IsIn unit (granted_of (zip us os)) → (grant : Grant) × Happened (GrantsUnit n row unit grant) calls × (life_in unit (zip us os) ≡ grant.life)) →
-          (grant : Grant) × Happened (GrantsUnit n row unit grant) calls × (cond b found.life (life_in unit (zip us os)) ≡ grant.life)
-      by true e h more = (found, subst (λ (v : ℕ). Happened (GrantsUnit n row v found) calls) (eqb-true u unit e) f.0, refl)
+          (IsIn unit (granted_of (zip us os)) → (grant : Grant) × Happened (IsUnitGrant n row unit grant) calls × (life_in unit (zip us os) ≡ grant.life)) →
+          (grant : Grant) × Happened (IsUnitGrant n row unit grant) calls × (cond b found.life (life_in unit (zip us os)) ≡ grant.life)
+      by true e h more = (found, subst (λ (v : ℕ). Happened (IsUnitGrant n row v found) calls) (eqb-true u unit e) f.0, refl)
       by false e (inl same) more = absurd (let no : false ≡ true = sym e ∙ eq-eqb u unit same in cc)
       by false e (inr j) more = more j
-
-  -- each unit was granted or is missing, and one that is missing was so to its claim
-  granted-or-missing : (us : List ℕ) (os : List (Option Grant)) → Filled (ClaimFound n row calls) us os [] → (unit : ℕ) → IsIn unit us →
-      IsIn unit (granted_of (zip us os)) ⊎ IsIn unit (missing_units (zip us os))
-  granted-or-missing [] os f unit i = absurd i
-  granted-or-missing (u ∷ us) [] f unit i = absurd (cc)
-  granted-or-missing (u ∷ us) (None ∷ os) f unit (inl same) = inr (inl same)
-  granted-or-missing (u ∷ us) (None ∷ os) f unit (inr i) = elim (granted-or-missing us os f.1 unit i) [
-    | inl j ↦ inl j
-    | inr j ↦ inr (inr j)
-  ]
-  granted-or-missing (u ∷ us) (Some grant ∷ os) f unit (inl same) = inl (inl same)
-  granted-or-missing (u ∷ us) (Some grant ∷ os) f unit (inr i) = elim (granted-or-missing us os f.1 unit i) [
-    | inl j ↦ inl (inr j)
-    | inr j ↦ inr j
-  ]
 
   missing-gone : (Q R : ℕ → Type 0) → ((unit : ℕ) → Q unit → WasGone n row unit calls → R unit) → (us : List ℕ) (os : List (Option Grant)) (left : List ℕ) → Filled (ClaimFound n row calls) us os left →
       AllByRecursion Q us → AllByRecursion R (missing_units (zip us os))
@@ -192,7 +171,7 @@ module _ (a : Access) (least : 3 ≤ a.n) where
       Given = granted_of (zip (wanted_units a row) row.wanted)
 
       abbrev IsPutDone : List Call → ℕ → Type 0
-      IsPutDone calls u = Happened (λ call. PutsUnit a.n row.part.row u (plain_cell (block_at a row.part u)) call × IsDone call) calls
+      IsPutDone calls u = Happened (λ call. IsUnitPut a.n row.part.row u (plain_cell (block_at a row.part u)) call × IsDone call) calls
 
       abbrev IsLeft : List Call → ℕ → Type 0
       IsLeft calls u = (u + 1 < a.n) × (has_unit row.part.mask u ≡ true) × WasGone a.n row.part.row u calls
@@ -247,7 +226,7 @@ module _ (a : Access) (least : 3 ≤ a.n) where
 
       -- a put that is done, or whose unit is left to the parity
       module _ (u : ℕ) (us : List ℕ) (due : IsDue u) (calls : List Call) (call : Call) (is : errand_of call ≡ data_put a n row u) (puts : Puts) (p : Putting (u ∷ us) calls puts) where
-        puts-this : PutsUnit a.n row.part.row u (plain_cell (block_at a row.part u)) call
+        puts-this : IsUnitPut a.n row.part.row u (plain_cell (block_at a row.part u)) call
         puts-this = (ap (λ (x : Errand). x.bay) is, a.id, n, ap (λ (x : Errand). x.request) is)
 
         put-done : call.answer.reply ≡ Done → (blocks : List ℕ) → Putting us (call ∷ calls) (with_made puts blocks)
@@ -311,7 +290,7 @@ module _ (a : Access) (least : 3 ≤ a.n) where
       are-settled : (calls : List Call) (puts : Puts) → Putting [] calls puts → AreSettled a row.part calls (map (unit_commit a row) (parity_units a row puts))
       are-settled calls puts p = record {
         wanted = λ unit below has.
-            by unit (granted-or-missing a.n row.part.row calls (wanted_units a row) row.wanted p.own.1 unit (in-filter unit (has_unit row.part.mask) (units a.n) (in-units a.n unit (omega arith)) has));
+            by unit (given-or-missing (ClaimFound a.n row.part.row calls) (wanted_units a row) row.wanted p.own.1 unit (in-filter unit (has_unit row.part.mask) (units a.n) (in-units a.n unit (omega arith)) has));
         committed =
             all-map
             (λ (c : Commit). (c.row ≡ row.part.row) × (c.unit + 1 < a.n) × (has_unit row.part.mask c.unit ≡ true) × (c.content ≡ Bytes (block_at a row.part c.unit)) × WasGone a.n row.part.row c.unit calls)
