@@ -19,12 +19,12 @@ use Rattle.bay_device.specs.Handling.{count_faults}
 use Rattle.script_text.specs.Script.{Script}
 use Rattle.script_text.specs.Ranges.{IsScript}
 use Rattle.script_text.specs.Weights.{total}
-use Rattle.host_engine.specs.Bounds.{IsPlayable}
-use Rattle.host_engine.specs.History.{turns_of}
-use Rattle.host_engine.proofs.Quotas.{totals_cover_requests}
-use Rattle.host_engine.proofs.HostCauses.{causes_are_met}
-use Rattle.host_engine.proofs.CompleteHistory.{unrefused_jobs_are_done}
-use Rattle.host_engine.proofs.CompleteSteps.{unrefused_attempts_go_on}
+use Rattle.histories.specs.Bounds.{IsPlayable}
+use Rattle.histories.specs.History.{turns_of}
+use Rattle.histories.proofs.bounds.Quotas.{totals_cover_requests}
+use Rattle.histories.proofs.causes.HostCauses.{causes_are_met}
+use Rattle.histories.proofs.completeness.CompleteHistory.{unrefused_jobs_are_done}
+use Rattle.histories.proofs.completeness.CompleteSteps.{unrefused_attempts_go_on}
 use Rattle.report_text.specs.Report.{ReportOf, report_text}
 use Rattle.report_text.specs.Views.{report_in}
 use Rattle.load_maker.specs.Load.{load_script}
@@ -35,14 +35,16 @@ use Rattle.schedule_play.specs.World.{AreOver, Keeps, Shows, IsReady, all_reques
 use Rattle.schedule_play.specs.Making.{AreBack, AreLarge, IsRefusal, stores_of}
 use Rattle.schedule_play.specs.Gathering.{IsBlank, IsClosable, IsGathered}
 use Rattle.schedule_play.specs.Rows.{HasFailed, cells_after}
-use Rattle.schedule_play.specs.Headline.{StoresHold, results, contents, report_of}
+use Rattle.histories.specs.Stored.{StoresHold}
+use Rattle.histories.specs.Results.{results, contents}
+use Rattle.schedule_play.specs.Reported.{report_of}
 use Rattle.schedule_play.specs.declared.world.World.{World}
 use Rattle.schedule_play.specs.declared.making.WorldFault.{WorldFault}
 use Rattle.schedule_play.specs.declared.making.WorldFault.TheVariants as faults
-use Rattle.schedule_play.proofs.LoneBays.{lone_hosts_are_done}
-use Rattle.schedule_play.proofs.TornEndings.{lost_blocks_are_torn}
-use Rattle.schedule_play.proofs.ContentParity.{parity_is_kept, contents_are_shown}
-use Rattle.schedule_play.proofs.Serial.{plays_are_serial}
+use Rattle.attempt_laws.proofs.lone.LoneBays.{lone_hosts_are_done}
+use Rattle.row_laws.proofs.torn.TornEndings.{lost_blocks_are_torn}
+use Rattle.serial_laws.proofs.contents.ContentParity.{parity_is_kept, contents_are_shown}
+use Rattle.serial_laws.proofs.serial.Serial.{plays_are_serial}
 use Rattle.schedule_play.proofs.CloseLemmas.{closed-journals, closed-stores, closed-back}
 use Rattle.schedule_play.proofs.ReportLemmas.{report-is}
 use Rattle.schedule_play.proofs.ContentLemmas.{contents-whole}

@@ -9,7 +9,7 @@ use Rattle.raid_base.specs.Counts.{Rises}
 use Rattle.raid_base.specs.Streams.{AppendsPart}
 use Rattle.block_store.specs.declared.store.Store.{Ghosts as StoreGhosts}
 use Rattle.script_text.specs.Script.{Script}
-use Rattle.host_engine.specs.History.{faults_in}
+use Rattle.histories.specs.History.{faults_in}
 use Rattle.schedule_play.specs.declared.world.World.{World}
 use Rattle.schedule_play.specs.declared.making.WorldFault.{WorldFault}
 use Rattle.schedule_play.specs.declared.making.WorldFault.TheVariants as faults
@@ -17,7 +17,7 @@ use Rattle.schedule_play.specs.declared.making.WorldFault.TheVariants.{TooFew, N
 use Rattle.schedule_play.specs.Making.{AreLarge}
 use Rattle.schedule_play.specs.World.{AreOver, Shows, all_requests, AllTell as BaysTell}
 use Rattle.schedule_play.specs.Gathering.{IsClosable, IsGathered}
-use Rattle.schedule_play.specs.Turns.{all_ended, sim}
+use Rattle.histories.specs.Turns.{all_ended, sim}
 use Rattle.array_cli.specs.declared.run.Outcome.{Outcome}
 use Rattle.array_cli.specs.Runs.{AllTell, IsEmpty, HasStopped}
 

@@ -16,14 +16,15 @@ use Rattle.script_text.specs.Faults.{fault_in}
 use Rattle.script_text.specs.Ranges.{IsScript}
 use Rattle.script_text.specs.Weights.{total}
 use Rattle.report_text.specs.Report.{ReportOf, report_text}
-use Rattle.host_engine.specs.Completeness.{UnrefusedAreDone, UnrefusedGoOn}
+use Rattle.histories.specs.Completeness.{UnrefusedAreDone, UnrefusedGoOn}
 use Rattle.load_maker.specs.Load.{load_script}
 use Rattle.load_maker.specs.Summary.{summary_text}
 use Rattle.schedule_play.specs.World.{EachAt}
 use Rattle.schedule_play.specs.Making.{AreBack, AreLarge, IsFirstSmall}
-use Rattle.schedule_play.specs.Contents.{AreContentsShown}
-use Rattle.schedule_play.specs.Lone.{LoneJobsAreDone}
-use Rattle.schedule_play.specs.Headline.{Outcome as PlayOutcome, Headline, report_of}
+use Rattle.serial_laws.specs.Contents.{AreContentsShown}
+use Rattle.attempt_laws.specs.Lone.{LoneJobsAreDone}
+use Rattle.serial_laws.specs.Headline.{Outcome as PlayOutcome, Headline}
+use Rattle.schedule_play.specs.Reported.{report_of}
 use Rattle.array_cli.specs.declared.run.Outcome.{Outcome}
 use Rattle.array_cli.specs.declared.words.Command.{Command}
 use Rattle.array_cli.specs.declared.words.Command.TheVariants.{Sim, Run, Load}

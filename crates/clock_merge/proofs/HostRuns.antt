@@ -10,10 +10,10 @@ use Rattle.slot_rules.specs.Slots.{Bay}
 use Rattle.slot_rules.specs.Rules.{rule}
 use Rattle.slot_rules.specs.Replay.{Replays}
 use Rattle.script_text.specs.Script.{Script}
-use Rattle.host_engine.specs.Progress.{Progress, asks, takes, work_errand}
-use Rattle.host_engine.specs.History.{if_taken, progress_at}
-use Rattle.host_engine.proofs.BoundsTakes.{sent-errand}
-use Rattle.host_engine.proofs.BoundsClocks.{takes-clock}
+use Rattle.histories.specs.Progress.{Progress, asks, takes, work_errand}
+use Rattle.histories.specs.History.{if_taken, progress_at}
+use Rattle.histories.proofs.bounds.BoundsTakes.{sent-errand}
+use Rattle.histories.proofs.bounds.BoundsClocks.{takes-clock}
 use Rattle.clock_merge.specs.Tied.{IsHostRun}
 use Rattle.clock_merge.proofs.LineLemmas.{same-test, all-weaker}
 

@@ -6,7 +6,7 @@ use Rattle.raid_base.specs.declared.numbers.HostNo.{HostNo}
 use Rattle.raid_base.specs.declared.numbers.BayNo.{BayNo}
 use Rattle.raid_base.specs.declared.messages.Call.{Call}
 use Rattle.raid_base.specs.declared.messages.Entry.{Entry}
-use Rattle.host_engine.specs.History.{entry_of}
+use Rattle.histories.specs.History.{entry_of}
 use Rattle.clock_merge.specs.Merge.{Line, entries_at, IsBefore, RiseFrom, Rise}
 use Rattle.clock_merge.specs.Tied.{entries_of, calls_at}
 

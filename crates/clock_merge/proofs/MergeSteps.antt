@@ -11,8 +11,8 @@ use Rattle.stripe_layout.specs.Placement.{bay}
 use Rattle.slot_rules.specs.Slots.{Bay}
 use Rattle.slot_rules.specs.Replay.{next_clock, Replays}
 use Rattle.script_text.specs.Script.{Script}
-use Rattle.host_engine.specs.Progress.{Progress, Sent}
-use Rattle.host_engine.specs.History.{if_taken, progress_at, if_ruled, bay_at, clock_at, entry_of, journal, transcript, answered, IsHistory, after_sent, after_turn}
+use Rattle.histories.specs.Progress.{Progress, Sent}
+use Rattle.histories.specs.History.{if_taken, progress_at, if_ruled, bay_at, clock_at, entry_of, journal, transcript, answered, IsHistory, after_sent, after_turn}
 use Rattle.clock_merge.specs.Merge.{Line, entries_at, IsBefore, RiseFrom, turn_of}
 use Rattle.clock_merge.specs.Tied.{entries_of, calls_at, has_fault, faults_of}
 use Rattle.clock_merge.proofs.LineLemmas.{same-bay, same-host, same-test, other-test, same-heads, same-tails, entries-here, host-here, call-here, call-there, all-at, all-of, all-calls, before-all}

@@ -10,8 +10,8 @@ use Rattle.stripe_layout.specs.Placement.{bay}
 use Rattle.slot_rules.specs.Slots.{Bay, first_bay}
 use Rattle.slot_rules.specs.Replay.{Replays}
 use Rattle.script_text.specs.Script.{Script}
-use Rattle.host_engine.specs.Progress.{Progress}
-use Rattle.host_engine.specs.History.{progress_at, transcript, after_turn, play}
+use Rattle.histories.specs.Progress.{Progress}
+use Rattle.histories.specs.History.{progress_at, transcript, after_turn, play}
 use Rattle.clock_merge.specs.Merge.{Line, entries_at, Rise, IsMerge, turn_of}
 use Rattle.clock_merge.specs.Tied.{entries_of, calls_at, AreTied, IsHostRun, faults_of, IsPlayOfMerge, MergedPlaysAreTied}
 use Rattle.clock_merge.proofs.LineLemmas.{same-test, all-of, all-bays, call-here, rise-later}

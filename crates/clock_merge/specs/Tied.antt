@@ -10,8 +10,8 @@ use Rattle.slot_rules.specs.Slots.{Bay, first_bay}
 use Rattle.slot_rules.specs.Replay.{Replays}
 use Rattle.script_text.specs.Script.{Script}
 use Rattle.script_text.specs.Ranges.{IsScript}
-use Rattle.host_engine.specs.Progress.{asks}
-use Rattle.host_engine.specs.History.{Faults, progress_at, entry_of, journal, transcript, IsHistory, play}
+use Rattle.histories.specs.Progress.{asks}
+use Rattle.histories.specs.History.{Faults, progress_at, entry_of, journal, transcript, IsHistory, play}
 use Rattle.clock_merge.specs.Merge.{Line, IsMerge, turn_of}
 
 -- the entries of a host, in their order

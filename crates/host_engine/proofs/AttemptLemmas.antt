@@ -39,7 +39,7 @@ use Rattle.host_engine.specs.declared.attempt.Kind.{Kind}
 use Rattle.host_engine.specs.declared.attempt.Kind.TheVariants.{Reading, Writing, Recovering, Mending}
 use Rattle.host_engine.specs.declared.attempt.Kept.TheVariants.{Contents}
 use Rattle.host_engine.specs.Left as lefts
-use Rattle.host_engine.specs.Plain.{task_blocks, task_count, is_held_task, AreTaskParts, contents_in}
+use Rattle.histories.specs.Plain.{task_blocks, task_count, is_held_task, AreTaskParts, contents_in}
 
 -- a write has as many blocks as its parts
 pub suits-write : (script : Script) (task : Task) (object : Name) (first from count : ℕ) (n : ℕ) (parts : List RowPart) (k : ℕ) → task ≡ tasks.Write object first from count →

@@ -13,20 +13,20 @@ use Rattle.raid_base.specs.declared.jobs.Cause.{Cause}
 use Rattle.raid_base.specs.declared.jobs.Cause.TheVariants as causes
 use Rattle.raid_base.specs.declared.cells.Content.{Content}
 use Rattle.script_text.specs.Script.{Script, jobs_of}
-use Rattle.host_engine.specs.Progress.{Progress, Ending, Trying, Over, with_ending, next_job, endings_of, try_task, try_parts, lose_job, fit_job, rebuild_job, start_task, start_jobs, try_again, task_of, stops, stops_at, job_stops, job_ended, go_on, once_more, attempt_refused, row_mended, next_row, is_spent, parts_end, one_more, attempt}
+use Rattle.histories.specs.Progress.{Progress, Ending, Trying, Over, with_ending, next_job, endings_of, try_task, try_parts, lose_job, fit_job, rebuild_job, start_task, start_jobs, try_again, task_of, stops, stops_at, job_stops, job_ended, go_on, once_more, attempt_refused, row_mended, next_row, is_spent, parts_end, one_more, attempt}
 use Rattle.host_engine.specs.Stands.{Counts, Stands, FirstTask, Begins, BeginsFirst, work_of, result_of, results_of, contents_of}
 use Rattle.host_engine.specs.declared.duty.Duty.{Duty}
 use Rattle.host_engine.specs.declared.duty.Duty.TheVariants as duties
 use Rattle.host_engine.specs.declared.host.Host.{Host}
 use Rattle.host_engine.specs.declared.attempt.Attempt.{Attempt}
 use Rattle.host_engine.specs.Left.{left, Suits, SuitsWork}
-use Rattle.host_engine.specs.Plain.{task_blocks, first_blocks, task_parts, IsTried, FirstTried, is_plain_task, is_sized_task, are_sized, is_held_task, are_held, is_aimed_task, are_aimed}
+use Rattle.histories.specs.Plain.{task_blocks, first_blocks, task_parts, IsTried, FirstTried, is_plain_task, is_sized_task, are_sized, is_held_task, are_held, is_aimed_task, are_aimed}
 use Rattle.raid_base.specs.declared.numbers.Number.{Number}
 use Rattle.raid_base.specs.declared.numbers.BayNo.{BayNo}
 use Rattle.raid_base.specs.declared.numbers.RowNo.{RowNo}
 use Rattle.place_numbers.specs.declared.Numbers.{Numbers}
-use Rattle.host_engine.specs.declared.operator.Gone.{Gone}
-use Rattle.host_engine.specs.Operator.{is_gone}
+use Rattle.histories.specs.declared.operator.Gone.{Gone}
+use Rattle.histories.specs.Operator.{is_gone}
 use Rattle.raid_base.specs.declared.numbers.Spent.{Spent}
 use Rattle.raid_base.specs.declared.jobs.Task.{Task}
 use Rattle.raid_base.specs.declared.jobs.Task.TheVariants as tasks

@@ -16,15 +16,15 @@ use Rattle.attempts.specs.Taking.{Finish}
 use Rattle.attempts.specs.Discipline.{IsWithin}
 use Rattle.script_text.specs.Script.{Script}
 use Rattle.script_text.specs.Ranges.{IsScript}
-use Rattle.host_engine.specs.Progress.{Progress, Work, Trying, Losing, Fitting, Over, Sent, asks, sent_by, work_errand, takes, at_start}
-use Rattle.host_engine.specs.Plain.{FitsNext}
-use Rattle.host_engine.specs.Bounds.{Keeps, KeepsWork, IsFinish, host_requests, host_contents}
+use Rattle.histories.specs.Progress.{Progress, Work, Trying, Losing, Fitting, Over, Sent, asks, sent_by, work_errand, takes, at_start}
+use Rattle.histories.specs.Plain.{FitsNext}
+use Rattle.histories.specs.Bounds.{Keeps, KeepsWork, IsFinish, host_requests, host_contents}
 use Rattle.host_engine.specs.Stands.{Stands, sent_pair, CanTake, Takes, IsSentBy, IsFreshHost}
 use Rattle.host_engine.specs.Ready.{IsReady}
 use Rattle.host_engine.specs.declared.host.Host.{Host}
-use Rattle.host_engine.proofs.BoundsCounts.{by-one}
-use Rattle.host_engine.proofs.BoundsMeasures.{KeepsBy, StepsBy, WorkBy, by_requests, keeps-of}
-use Rattle.host_engine.proofs.BoundsTakes.{keeps-takes, keeps-start}
+use Rattle.histories.proofs.bounds.BoundsCounts.{by-one}
+use Rattle.histories.proofs.bounds.BoundsMeasures.{KeepsBy, StepsBy, WorkBy, by_requests, keeps-of}
+use Rattle.histories.proofs.bounds.BoundsTakes.{keeps-takes, keeps-start}
 use Rattle.host_engine.proofs.TakeLemmas.{has-sent}
 
 module _ (script : Script) (is : IsScript script) where

@@ -23,6 +23,7 @@ use Rattle.raid_base.specs.declared.jobs.JobEnd.TheVariants as job_ends
 use Rattle.raid_base.specs.declared.jobs.Job.{Job}
 use Rattle.raid_base.specs.declared.cells.Content.{Content}
 use Rattle.place_numbers.specs.declared.Numbers.{Numbers}
+use Rattle.histories.proofs.hands.Settled.{draws-settled}
 use Rattle.host_engine.specs.Left.{left, Suits, SuitsWork}
 use Rattle.host_engine.specs.declared.attempt.Attempt.{Attempt}
 use Rattle.host_engine.specs.declared.duty.Duty.{Duty}
@@ -30,17 +31,11 @@ use Rattle.host_engine.specs.declared.duty.Duty.TheVariants as duties
 use Rattle.host_engine.specs.declared.host.Host.{Host}
 use Rattle.host_engine.specs.Stands.{Counts, Stands, KeepsRoom, Told, IsTrying, IsAsking, Quits, IsNoted, CanHear, CanTake, Takes, IsSentBy, sent_pair, contents_of, work_of}
 use Rattle.script_text.specs.Script.{Script, jobs_of}
-use Rattle.host_engine.specs.Progress.{Progress, Ending, Work, Trying, Losing, Fitting, Over, steps_left, asks_on, attempt_ended, job_ended, stops, quit_end, with_ending, next_job, work_told, call_counted, asks, sent_by, work_errand, Sent}
-use Rattle.host_engine.specs.Plain.{FitsNext, FirstTried, first_blocks, contents_in}
-use Rattle.host_engine.specs.Bounds.{Keeps, KeepsSteps, KeepsDevice, KeepsWork, IsFinish, job_contents}
-use Rattle.host_engine.proofs.BoundsTries.{read-most}
+use Rattle.histories.specs.Progress.{Progress, Ending, Work, Trying, Losing, Fitting, Over, steps_left, asks_on, attempt_ended, job_ended, stops, quit_end, with_ending, next_job, work_told, call_counted, asks, sent_by, work_errand, Sent}
+use Rattle.histories.specs.Plain.{FitsNext, FirstTried, first_blocks, contents_in}
+use Rattle.histories.specs.Bounds.{Keeps, KeepsSteps, KeepsDevice, KeepsWork, IsFinish, job_contents}
+use Rattle.histories.proofs.bounds.BoundsTries.{read-most}
 use Rattle.host_engine.proofs.HostLemmas.{stopped-stands}
-
--- once settled nothing is to be drawn
-pub draws-settled : {A : Type 0} (host : HostNo) (seen : Number) (s : Steps A) → draws (settled host seen s).steps ≡ false
-draws-settled host seen (Asks e t c k) = refl
-draws-settled host seen (Draws k) = draws-settled host (seen_drawn seen (draw host seen)) (k (draw host seen))
-draws-settled host seen (Ends a) = refl
 
 -- the attempt goes on
 pub steps-go : (script : Script) (host : HostNo) (p : Progress) (steps : Steps Finish) → stops p ≡ false → draws steps ≡ false → answer steps ≡ None →

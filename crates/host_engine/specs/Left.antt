@@ -18,8 +18,8 @@ use Rattle.host_engine.specs.declared.attempt.Kept.{Kept}
 use Rattle.host_engine.specs.declared.attempt.Kept.TheVariants.{Nothing, Contents}
 use Rattle.host_engine.specs.declared.duty.Duty.{Duty}
 use Rattle.host_engine.specs.declared.duty.Duty.TheVariants as duties
-use Rattle.host_engine.specs.Plain.{contents_in}
-use Rattle.host_engine.specs.Progress.{Work, Trying, Losing, Fitting, no_steps}
+use Rattle.histories.specs.Plain.{contents_in}
+use Rattle.histories.specs.Progress.{Work, Trying, Losing, Fitting, no_steps}
 
 -- of each kind, and nothing is left where none was begun
 abbrev pub read_left : Option ReadTry → Steps Finish

@@ -4,8 +4,8 @@ use Rattle.std.specs.Vec.{vec_len, vec_capacity}
 use Rattle.raid_base.specs.declared.numbers.HostNo.{HostNo}
 use Rattle.script_text.specs.Script.{Script}
 use Rattle.script_text.specs.Ranges.{IsScript}
-use Rattle.host_engine.specs.Progress.{Progress}
-use Rattle.host_engine.specs.Bounds.{Keeps}
+use Rattle.histories.specs.Progress.{Progress}
+use Rattle.histories.specs.Bounds.{Keeps}
 use Rattle.host_engine.specs.Stands.{Stands}
 use Rattle.host_engine.specs.declared.host.Host.{Host}
 

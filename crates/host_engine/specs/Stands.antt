@@ -15,9 +15,9 @@ use Rattle.raid_base.specs.declared.jobs.Ended.{Ended}
 use Rattle.raid_base.specs.Steps.{told, answer, stopped}
 use Rattle.attempts.specs.Taking.{Finish}
 use Rattle.script_text.specs.Script.{Script, jobs_of}
-use Rattle.host_engine.specs.Progress.{Progress, Work, Over, Ending, Sent, takes, sent_by, work_errand, start_task, at_start, next_job, with_ending, quit_end}
-use Rattle.host_engine.specs.Plain.{first_blocks, FitsNext}
-use Rattle.host_engine.specs.Bounds.{Keeps, host_requests, host_contents}
+use Rattle.histories.specs.Progress.{Progress, Work, Over, Ending, Sent, takes, sent_by, work_errand, start_task, at_start, next_job, with_ending, quit_end}
+use Rattle.histories.specs.Plain.{first_blocks, FitsNext}
+use Rattle.histories.specs.Bounds.{Keeps, host_requests, host_contents}
 use Rattle.host_engine.specs.Left.{left, Suits, work_in, SuitsWork}
 use Rattle.host_engine.specs.declared.attempt.Attempt.{Attempt}
 use Rattle.host_engine.specs.declared.duty.Duty.{Duty}

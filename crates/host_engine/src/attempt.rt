@@ -9,8 +9,8 @@ ghost use Rattle.attempts.specs.Writing.{write_steps};
 ghost use Rattle.attempts.specs.Mending.{mend_steps};
 ghost use Rattle.attempts.specs.Recovery.{recover_steps};
 ghost use Rattle.virtual_objects.specs.RowParts.{AreRowParts};
-ghost use Rattle.host_engine.specs.Progress.{attempt, no_steps};
-ghost use Rattle.host_engine.specs.Plain.{IsTried, is_sized_task, is_held_task, FitsNext, AreTaskParts, contents_in, task_parts, task_blocks};
+ghost use Rattle.histories.specs.Progress.{attempt, no_steps};
+ghost use Rattle.histories.specs.Plain.{IsTried, is_sized_task, is_held_task, FitsNext, AreTaskParts, contents_in, task_parts, task_blocks};
 ghost use Rattle.host_engine.specs.Left.{read_left, write_left, recovery_left, mend_left, FitsWrite};
 
 use crate::lookup::devices;

@@ -13,7 +13,7 @@ pub enum Duty {
 }
 
 impl Duty {
-    ghost use Rattle.host_engine.specs.Progress.{work_errand};
+    ghost use Rattle.histories.specs.Progress.{work_errand};
     ghost use Rattle.host_engine.specs.Left.{work_in};
 
     /// The next request, and none where the attempt has ended.

@@ -1,15 +1,15 @@
 //! One host: its jobs in order, each by one attempt after another until it is done or given up.
 ghost use Rattle.std.specs.Prelude.{◌≡◌, ◌+◌, ◌<◌, ◌≤◌, ◌-◌, ◌^◌, Some, true, ◌==◌, ◌||◌, length};
-ghost use Rattle.host_engine.specs.Operator.{is_gone};
-ghost use Rattle.host_engine.specs.Progress.{parts_end, is_spent, quit_end};
-ghost use Rattle.host_engine.specs.Plain.{first_blocks, are_sized, are_held, are_aimed};
+ghost use Rattle.histories.specs.Operator.{is_gone};
+ghost use Rattle.histories.specs.Progress.{parts_end, is_spent, quit_end};
+ghost use Rattle.histories.specs.Plain.{first_blocks, are_sized, are_held, are_aimed};
 ghost use Rattle.std.specs.Vec.{vec_len, vec_capacity};
 
 use crate::attempt::{Attempt, Kept};
 use crate::duty::Duty;
 use crate::lookup;
-use crate::operator::Gone;
 use crate::room::{contents_in, requests_in, task_parts, with_room};
+use histories::Gone;
 use place_numbers::Numbers;
 use raid_base::{
     Answer, Ask, BayNo, Call, Cause, Content, Ended, HostNo, Job, JobEnd, JobResult, NoMemory,
@@ -135,8 +135,8 @@ impl<'s> Host<'s> {
     ghost use Rattle.raid_base.specs.declared.numbers.HostNo.{HostNo};
     ghost use Rattle.raid_base.specs.declared.jobs.JobEnd.{JobEnd};
     ghost use Rattle.raid_base.specs.declared.jobs.Task.TheVariants.{Rebuild};
-    ghost use Rattle.host_engine.specs.Plain.{IsTried, FirstTried, is_sized_task, is_held_task, is_plain_task, task_parts};
-    ghost use Rattle.host_engine.specs.Progress.{Progress, with_ending, next_job, try_task, try_parts, lose_job, fit_job, rebuild_job, start_jobs, attempt_refused, row_mended, try_again, stops, task_of, asks, job_ended, attempt_ended, work_told, is_over, Sent};
+    ghost use Rattle.histories.specs.Plain.{IsTried, FirstTried, is_sized_task, is_held_task, is_plain_task, task_parts};
+    ghost use Rattle.histories.specs.Progress.{Progress, with_ending, next_job, try_task, try_parts, lose_job, fit_job, rebuild_job, start_jobs, attempt_refused, row_mended, try_again, stops, task_of, asks, job_ended, attempt_ended, work_told, is_over, Sent};
     ghost use Rattle.host_engine.specs.Left.{contents_kept};
     ghost use Rattle.host_engine.specs.declared.attempt.Kept.TheVariants.{Contents};
     ghost use Rattle.host_engine.specs.Stands.{Counts, Stands, KeepsRoom, Skips, Begins, BeginsFirst, FirstTask, sent_pair, Told, IsTrying, IsAsking, Quits, IsNoted, CanHear, CanTake, Takes, IsSentBy, IsFreshHost};

@@ -4,9 +4,7 @@
 pub mod attempt;
 pub mod duty;
 pub mod host;
-pub mod laws;
 pub mod lookup;
-pub mod operator;
 pub mod room;
 
 pub use host::Host;

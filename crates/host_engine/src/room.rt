@@ -1,9 +1,9 @@
 //! How much a host may ask and report, and the room for it.
 ghost use Rattle.std.specs.Prelude.{◌≡◌, ◌≤◌, ◌<◌, ◌*◌, ◌^◌, [], length, sum_by, true, IfOk};
 ghost use Rattle.std.specs.Vec.{vec_capacity};
-ghost use Rattle.host_engine.specs.Bounds.{job_requests, job_contents, task_contents, task_requests, parts_requests};
+ghost use Rattle.histories.specs.Bounds.{job_requests, job_contents, task_contents, task_requests, parts_requests};
 ghost use Rattle.host_engine.specs.Parts.{parts_as_items};
-ghost use Rattle.host_engine.specs.Plain.{are_sized, is_sized_task, task_parts, AreTaskParts};
+ghost use Rattle.histories.specs.Plain.{are_sized, is_sized_task, task_parts, AreTaskParts};
 
 use crate::lookup;
 use raid_base::{Job, NoMemory, PartsFault, Task};

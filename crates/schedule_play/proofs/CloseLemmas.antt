@@ -15,10 +15,10 @@ use Rattle.block_store.specs.declared.store.Store.{Ghosts}
 use Rattle.bay_device.specs.declared.bay.Bay.{Bay}
 use Rattle.bay_device.specs.Handling.{count_faults}
 use Rattle.script_text.specs.Script.{Script}
-use Rattle.host_engine.specs.History.{journal}
+use Rattle.histories.specs.History.{journal}
 use Rattle.schedule_play.specs.Making.{IsBack, AreBack, stores_of}
-use Rattle.schedule_play.specs.RowStates.{cell_at}
-use Rattle.schedule_play.specs.Headline.{HoldsCell, HoldsBay, StoresHold}
+use Rattle.histories.specs.RowStates.{cell_at}
+use Rattle.histories.specs.Stored.{HoldsCell, HoldsBay, StoresHold}
 use Rattle.schedule_play.specs.World.{EachAt, BayShows, AllTell, IsOver, AreOver}
 use Rattle.schedule_play.proofs.RowLemmas.{map-as-range}
 
@@ -46,16 +46,6 @@ module _ {D : Type 0} {g : Ghosts D} where
   length-stores : (bays : List (Bay D g)) → length (stores_of bays) ≡ length bays
   length-stores [] = refl
   length-stores (b ∷ bays) = ap suc (length-stores bays)
-
-  -- some bay of a list
-  pub some-bay : (bays : List (Bay D g)) → 1 ≤ length bays → Bay D g
-  some-bay [] some = absurd (omega arith)
-  some-bay (b ∷ bays) some = b
-
-  pub store-at : (bays : List (Bay D g)) (others : List D) (k : ℕ) (d : D) (e : Bay D g) → k < length bays → get_or (stores_of bays ++ others) k d ≡ (get_or bays k e).store
-  store-at [] others k d e inside = absurd (omega arith)
-  store-at (b ∷ bays) others zero d e inside = refl
-  store-at (b ∷ bays) others (suc k) d e inside = store-at bays others k d e (omega (arith, inside))
 
   -- the journals
   pub closed-journals : (script : Script) (history : List Call) (bays : List (Bay D g)) → EachAt (BayShows script history) bays → length bays ≡ script.n →

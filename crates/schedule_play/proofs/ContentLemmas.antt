@@ -14,14 +14,14 @@ use Rattle.raid_base.specs.declared.jobs.Task.{Task}
 use Rattle.raid_base.specs.declared.jobs.Task.TheVariants as tasks
 use Rattle.script_text.specs.Script.{Script, host_numbers, jobs_of}
 use Rattle.script_text.specs.Ranges.{IsScript}
-use Rattle.host_engine.specs.Plain.{task_count}
-use Rattle.host_engine.specs.Progress.{Ending}
-use Rattle.host_engine.specs.History.{endings_at}
-use Rattle.host_engine.specs.Endings.{contents_due, IsFilled, AreEndings}
-use Rattle.host_engine.proofs.EndingLemmas.{endings_are_filled}
+use Rattle.histories.specs.Plain.{task_count}
+use Rattle.histories.specs.Progress.{Ending}
+use Rattle.histories.specs.History.{endings_at}
+use Rattle.histories.specs.Endings.{contents_due, IsFilled, AreEndings}
+use Rattle.histories.proofs.endings.EndingLemmas.{endings_are_filled}
 use Rattle.report_text.specs.Views.{task_blocks, job_blocks, content_count, contents_by_result}
 use Rattle.report_text.proofs.ViewLemmas.{HaveContents, contents-back}
-use Rattle.schedule_play.specs.Headline.{result_of, host_results, results, contents}
+use Rattle.histories.specs.Results.{result_of, host_results, results, contents}
 
 count-is : (task : Task) → task_count task ≡ task_blocks task
 count-is (tasks.Read object first count) = refl

@@ -10,8 +10,8 @@ use Rattle.raid_base.specs.declared.jobs.Task.{Task}
 use Rattle.raid_base.specs.declared.jobs.Task.TheVariants as tasks
 use Rattle.script_text.specs.Script.{Script, HostJobs, host_numbers}
 use Rattle.script_text.specs.Ranges.{IsScript, Rise}
-use Rattle.host_engine.specs.Bounds.{task_contents, job_contents}
-use Rattle.host_engine.specs.Plain.{are_sized, is_sized_task}
+use Rattle.histories.specs.Bounds.{task_contents, job_contents}
+use Rattle.histories.specs.Plain.{are_sized, is_sized_task}
 
 -- there are at most 16 hosts
 few-hosts : (from : ℕ) (hosts : List HostNo) → from ≤ 16 → Rise from hosts → from + length hosts ≤ 16

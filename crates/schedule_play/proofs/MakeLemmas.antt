@@ -20,9 +20,9 @@ use Rattle.block_store.specs.declared.store.Store.{Ghosts}
 use Rattle.bay_device.specs.declared.bay.Bay.{Bay}
 use Rattle.host_engine.specs.declared.host.Host.{Host}
 use Rattle.host_engine.specs.Stands.{IsFreshHost}
-use Rattle.host_engine.specs.Bounds.{host_requests, job_requests}
-use Rattle.host_engine.specs.Quotas.{all_quotas}
-use Rattle.host_engine.specs.Plain.{are_sized, is_sized_task, is_sized, are_held, is_held_task, are_aimed, is_aimed_task}
+use Rattle.histories.specs.Bounds.{host_requests, job_requests}
+use Rattle.histories.specs.Quotas.{all_quotas}
+use Rattle.histories.specs.Plain.{are_sized, is_sized_task, is_sized, are_held, is_held_task, are_aimed, is_aimed_task}
 
 -- the host at each place is above those before it, and below 16
 pub record IsAbove (from : ℕ) (host : HostNo) : Type 0 where

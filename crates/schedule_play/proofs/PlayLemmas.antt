@@ -11,18 +11,18 @@ use Rattle.raid_base.specs.declared.messages.Call.{Call}
 use Rattle.raid_base.specs.declared.messages.Turn.{Turn}
 use Rattle.raid_base.specs.Replies.{is_fault}
 use Rattle.script_text.specs.Script.{Script, host_numbers}
-use Rattle.host_engine.specs.Progress.{Sent, asks}
-use Rattle.host_engine.specs.History.{Faults, faults_in, IsHistory, answered, after_sent, after_turn, play, has_ended, progress_at, journal, entry_of}
-use Rattle.schedule_play.specs.Turns.{sim, rounds, round_on, next_host, next_moment, last_moment, all_ended, or_first}
-use Rattle.host_engine.specs.Asked.{AreAsked}
-use Rattle.host_engine.specs.Bounds.{IsPlayable}
+use Rattle.histories.specs.Progress.{Sent, asks}
+use Rattle.histories.specs.History.{Faults, faults_in, IsHistory, answered, after_sent, after_turn, play, has_ended, progress_at, journal, entry_of}
+use Rattle.histories.specs.Turns.{sim, rounds, round_on, next_host, next_moment, last_moment, all_ended, or_first}
+use Rattle.histories.specs.Asked.{AreAsked}
+use Rattle.histories.specs.Bounds.{IsPlayable}
 use Rattle.script_text.specs.Ranges.{Rise, IsScript}
 use Rattle.host_engine.specs.declared.host.Host.{Host}
-use Rattle.schedule_play.proofs.AwakeLemmas.{asks-on, asks-none}
+use Rattle.histories.proofs.bounds.Awake.{asks-on, asks-none}
 use Rattle.schedule_play.proofs.WorldLemmas.{rise-least, default-free}
 use Rattle.std.proofs.lemmas.Bool.{cases_lt}
 use Rattle.std.specs.Vec.{vec_len}
-use Rattle.host_engine.proofs.BoundsHistory.{requests_are_bounded}
+use Rattle.histories.proofs.bounds.BoundsHistory.{requests_are_bounded}
 use Rattle.schedule_play.proofs.TurnLemmas.{length-turns}
 use Rattle.block_store.specs.declared.store.Store.{Ghosts}
 use Rattle.schedule_play.specs.declared.world.World.{World}

@@ -7,9 +7,9 @@ use Rattle.raid_base.specs.declared.numbers.HostNo.{HostNo}
 use Rattle.script_text.specs.Script.{Script, HostJobs, jobs_in, jobs_of}
 use Rattle.script_text.specs.Ranges.{all_jobs}
 use Rattle.script_text.specs.Weights.{quota, total}
-use Rattle.host_engine.specs.Bounds.{IsPlayable}
-use Rattle.host_engine.specs.Quotas.{all_quotas, TotalsCover}
-use Rattle.host_engine.proofs.Quotas.{totals_cover_requests}
+use Rattle.histories.specs.Bounds.{IsPlayable}
+use Rattle.histories.specs.Quotas.{all_quotas, TotalsCover}
+use Rattle.histories.proofs.bounds.Quotas.{totals_cover_requests}
 use Rattle.schedule_play.specs.World.{all_requests}
 use Rattle.schedule_play.proofs.GatherLemmas.{sum-by-hosts, sum-more}
 

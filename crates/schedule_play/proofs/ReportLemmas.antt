@@ -9,11 +9,12 @@ use Rattle.virtual_objects.specs.Objects.{Address, place}
 use Rattle.virtual_objects.proofs.PlaceLemmas.{are_places}
 use Rattle.script_text.specs.Script.{Script}
 use Rattle.script_text.specs.Ranges.{IsScript, table_of}
-use Rattle.host_engine.specs.History.{turns_of}
+use Rattle.histories.specs.History.{turns_of}
 use Rattle.report_text.specs.Report.{ReportOf}
 use Rattle.report_text.specs.Views.{object_blocks, flags_of, contents_by_result, report_in, shown_block as shown_in_view, shown_place as place_in_view}
 use Rattle.schedule_play.specs.Rows.{cells_after, opened_after}
-use Rattle.schedule_play.specs.Headline.{results, contents, shown_block, shown_place, report_of}
+use Rattle.histories.specs.Results.{results, contents, shown_block, shown_place}
+use Rattle.schedule_play.specs.Reported.{report_of}
 use Rattle.schedule_play.proofs.RowLemmas.{map-same, shown-after, closed-after}
 
 -- what is shown of a block

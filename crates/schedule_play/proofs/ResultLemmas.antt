@@ -13,15 +13,15 @@ use Rattle.raid_base.specs.declared.messages.Call.{Call}
 use Rattle.block_store.specs.declared.store.Store.{Ghosts}
 use Rattle.script_text.specs.Script.{Script, host_numbers, jobs_of}
 use Rattle.host_engine.specs.declared.host.Host.{Host}
-use Rattle.host_engine.specs.Progress.{Ending}
-use Rattle.host_engine.specs.History.{endings_at}
-use Rattle.host_engine.specs.Asked.{AreAsked}
-use Rattle.host_engine.specs.Bounds.{IsPlayable, host_contents}
-use Rattle.host_engine.specs.HostLaws.{IsBounded}
-use Rattle.host_engine.proofs.BoundsHistory.{requests_are_bounded}
+use Rattle.histories.specs.Progress.{Ending}
+use Rattle.histories.specs.History.{endings_at}
+use Rattle.histories.specs.Asked.{AreAsked}
+use Rattle.histories.specs.Bounds.{IsPlayable, host_contents}
+use Rattle.histories.specs.HostLaws.{IsBounded}
+use Rattle.histories.proofs.bounds.BoundsHistory.{requests_are_bounded}
 use Rattle.schedule_play.specs.declared.world.World.{World}
 use Rattle.schedule_play.specs.World.{EachAt, HostShows, Shows}
-use Rattle.schedule_play.specs.Headline.{host_results, results, contents}
+use Rattle.histories.specs.Results.{host_results, results, contents}
 
 -- what holds at each place holds of the rest
 each-later : {X : Type 0} (P : ℕ → X → Type 0) (x : X) (xs : List X) → EachAt P (x ∷ xs) → EachAt (λ k y. P (suc k) y) xs

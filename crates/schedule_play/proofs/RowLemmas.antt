@@ -17,7 +17,7 @@ use Rattle.bay_device.specs.declared.bay.Bay.{Bay}
 use Rattle.bay_device.specs.Handling.{cell_of_row, count_faults, RisesByFaults}
 use Rattle.script_text.specs.Script.{Script}
 use Rattle.schedule_play.specs.World.{EachAt, BayShows, AllTell, IsOver, AreOver}
-use Rattle.schedule_play.specs.RowStates.{slot_at, cell_at, is_open, shown_at}
+use Rattle.histories.specs.RowStates.{slot_at, cell_at, is_open, shown_at}
 use Rattle.report_text.specs.Rows.{cell_in, shown_in}
 use Rattle.report_text.proofs.ViewLemmas.{shown-same, closed-same}
 use Rattle.stripe_layout.specs.Placement.{bay, parity_bay, bay_of, units, bays_of, row_bays}

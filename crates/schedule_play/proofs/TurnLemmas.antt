@@ -19,22 +19,23 @@ use Rattle.bay_device.specs.Handling.{IsAskOfBay}
 use Rattle.attempts.specs.Discipline.{IsAskable}
 use Rattle.script_text.specs.Script.{Script}
 use Rattle.host_engine.specs.declared.host.Host.{Host}
-use Rattle.host_engine.specs.Progress.{Progress, Sent, asks, sent_by, work_errand}
-use Rattle.host_engine.specs.History.{progress_at, clock_at, journal, entry_of, transcript, turns_of, turn_of}
-use Rattle.host_engine.specs.Asked.{AreAsked}
-use Rattle.host_engine.specs.Quotas.{all_quotas}
-use Rattle.host_engine.specs.Bounds.{IsPlayable, host_requests, host_contents}
-use Rattle.host_engine.specs.HostLaws.{IsBounded}
-use Rattle.host_engine.specs.Plain.{FitsNext}
+use Rattle.histories.specs.Progress.{Progress, Sent, asks, sent_by, work_errand}
+use Rattle.histories.specs.History.{progress_at, clock_at, journal, entry_of, transcript, turns_of, turn_of}
+use Rattle.histories.specs.Asked.{AreAsked}
+use Rattle.histories.specs.Quotas.{all_quotas}
+use Rattle.histories.specs.Bounds.{IsPlayable, host_requests, host_contents}
+use Rattle.histories.specs.HostLaws.{IsBounded}
+use Rattle.histories.specs.Plain.{FitsNext}
 use Rattle.host_engine.specs.Stands.{Stands, CanTake, IsSentBy, sent_pair}
 use Rattle.schedule_play.specs.World.{HostShows, BayShows, Shows, all_requests}
 use Rattle.schedule_play.specs.declared.world.World.{World}
 use Rattle.block_store.specs.declared.store.Store.{Ghosts}
 use Rattle.bay_device.specs.declared.bay.Bay.{Bay}
 use Rattle.stripe_layout.specs.Placement.{bay}
-use Rattle.host_engine.proofs.BoundsTakes.{asks-within, sent-errand}
-use Rattle.host_engine.proofs.BoundsHistory.{requests_are_bounded}
-use Rattle.host_engine.proofs.Quotas.{requests_keep_quotas}
+use Rattle.histories.proofs.bounds.AskedRows.{asked-row}
+use Rattle.histories.proofs.bounds.BoundsTakes.{asks-within, sent-errand}
+use Rattle.histories.proofs.bounds.BoundsHistory.{requests_are_bounded}
+use Rattle.histories.proofs.bounds.Quotas.{requests_keep_quotas}
 use Rattle.host_engine.proofs.TakeLemmas.{sent-is}
 
 -- what is handed out is what is asked
@@ -47,15 +48,6 @@ pair-sent (Some sent) bay ask e =
 pub pair-none : (o : Option Sent) → None ≡ sent_pair o → o ≡ None
 pair-none None e = refl
 pair-none (Some sent) e = cc
-
-pub asked-row : (rows : ℕ) (request : Request) → IsAskable rows request → IfSome (row_of request) (λ row. row.0 < rows)
-asked-row rows (Share row id want) a = a.0
-asked-row rows (Claim row id how mask want) a = a.0
-asked-row rows (Confirm row id want) a = a.0
-asked-row rows (Put row id n cell) a = a.0
-asked-row rows (Release row id n) a = a.0
-asked-row rows Lose a = tt
-asked-row rows Fit a = tt
 
 asked-fits : (host : HostNo) (clock moment : ℕ) (o : Option Errand) (sent : Sent) (reply : Reply) → sent_by host clock moment o ≡ Some sent → fits sent.ask.what reply ≡ true → FitsNext o reply
 asked-fits host clock moment None sent reply e f = cc

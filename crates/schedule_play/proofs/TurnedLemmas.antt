@@ -15,10 +15,10 @@ use Rattle.block_store.specs.declared.store.Store.{Ghosts}
 use Rattle.bay_device.specs.declared.bay.Bay.{Bay}
 use Rattle.script_text.specs.Script.{Script}
 use Rattle.host_engine.specs.declared.host.Host.{Host}
-use Rattle.host_engine.specs.Progress.{Progress, Sent, asks}
-use Rattle.host_engine.specs.History.{progress_at, turns_of}
-use Rattle.host_engine.specs.Asked.{IsAsked}
-use Rattle.host_engine.specs.Bounds.{IsPlayable}
+use Rattle.histories.specs.Progress.{Progress, Sent, asks}
+use Rattle.histories.specs.History.{progress_at, turns_of}
+use Rattle.histories.specs.Asked.{IsAsked}
+use Rattle.histories.specs.Bounds.{IsPlayable}
 use Rattle.host_engine.specs.Stands.{Stands, Takes, IsSentBy, sent_pair}
 use Rattle.host_engine.proofs.TakeLemmas.{sent-is}
 use Rattle.schedule_play.specs.declared.world.World.{World}

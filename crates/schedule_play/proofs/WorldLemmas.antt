@@ -18,10 +18,10 @@ use Rattle.slot_rules.specs.Handling.{Handled}
 use Rattle.script_text.specs.Script.{Script, host_numbers}
 use Rattle.script_text.specs.Ranges.{Rise}
 use Rattle.host_engine.specs.declared.host.Host.{Host}
-use Rattle.host_engine.specs.Progress.{Progress, Sent}
-use Rattle.host_engine.specs.History.{IsNext, progress_at, bay_at, transcript}
-use Rattle.host_engine.specs.Asked.{IsAsked}
-use Rattle.host_engine.specs.Bounds.{host_requests, host_contents}
+use Rattle.histories.specs.Progress.{Progress, Sent}
+use Rattle.histories.specs.History.{IsNext, progress_at, bay_at, transcript}
+use Rattle.histories.specs.Asked.{IsAsked}
+use Rattle.histories.specs.Bounds.{host_requests, host_contents}
 use Rattle.host_engine.specs.Stands.{Stands, Takes}
 use Rattle.schedule_play.specs.World.{EachAt, HostShows, BayShows}
 

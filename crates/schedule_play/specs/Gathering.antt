@@ -7,10 +7,10 @@ use Rattle.raid_base.specs.declared.cells.Content.{Content}
 use Rattle.raid_base.specs.declared.messages.Call.{Call}
 use Rattle.block_store.specs.declared.store.Store.{Ghosts}
 use Rattle.script_text.specs.Script.{Script, host_numbers, jobs_of}
-use Rattle.host_engine.specs.Bounds.{host_contents}
+use Rattle.histories.specs.Bounds.{host_contents}
 use Rattle.schedule_play.specs.declared.gathering.Gathered.{Gathered}
 use Rattle.schedule_play.specs.declared.world.World.{World}
-use Rattle.schedule_play.specs.Headline.{results, contents}
+use Rattle.histories.specs.Results.{results, contents}
 use Rattle.schedule_play.specs.Rows.{cells_after, opened_after}
 
 -- how many jobs a host has

@@ -6,8 +6,8 @@ use Rattle.raid_base.specs.declared.messages.Turn.{Turn}
 use Rattle.block_store.specs.declared.store.Store.{Ghosts}
 use Rattle.script_text.specs.Script.{Script}
 use Rattle.host_engine.specs.declared.host.Host.{Host}
-use Rattle.host_engine.specs.History.{Faults, answered, faults_in, has_ended, journal, play}
-use Rattle.schedule_play.specs.Turns.{all_ended, sim}
+use Rattle.histories.specs.History.{Faults, answered, faults_in, has_ended, journal, play}
+use Rattle.histories.specs.Turns.{all_ended, sim}
 use Rattle.schedule_play.specs.World.{AllTell, Shows, all_requests}
 use Rattle.schedule_play.specs.declared.world.World.{World}
 

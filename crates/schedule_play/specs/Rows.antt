@@ -13,7 +13,7 @@ use Rattle.bay_device.specs.declared.bay.Bay.{Bay}
 use Rattle.bay_device.specs.Handling.{cell_of_row}
 use Rattle.script_text.specs.Script.{Script}
 use Rattle.schedule_play.specs.World.{EachAt, BayShows, AllTell}
-use Rattle.schedule_play.specs.RowStates.{cell_at, is_open}
+use Rattle.histories.specs.RowStates.{cell_at, is_open}
 
 abbrev pub row_no : ℕ → RowNo
 row_no k = record { 0 = k }

@@ -11,11 +11,11 @@ use Rattle.bay_device.specs.declared.bay.Bay.{Bay}
 use Rattle.bay_device.specs.Handling.{RisesByFaults}
 use Rattle.script_text.specs.Script.{Script, host_numbers}
 use Rattle.host_engine.specs.declared.host.Host.{Host}
-use Rattle.host_engine.specs.Progress.{Sent, asks}
-use Rattle.host_engine.specs.History.{IsHistory, progress_at, bay_at, clock_at, journal, transcript, turns_of}
-use Rattle.host_engine.specs.Bounds.{IsPlayable, host_requests, host_contents}
-use Rattle.host_engine.specs.Quotas.{all_quotas}
-use Rattle.host_engine.specs.Asked.{AreAsked}
+use Rattle.histories.specs.Progress.{Sent, asks}
+use Rattle.histories.specs.History.{IsHistory, progress_at, bay_at, clock_at, journal, transcript, turns_of}
+use Rattle.histories.specs.Bounds.{IsPlayable, host_requests, host_contents}
+use Rattle.histories.specs.Quotas.{all_quotas}
+use Rattle.histories.specs.Asked.{AreAsked}
 use Rattle.host_engine.specs.Stands.{Stands}
 use Rattle.schedule_play.specs.declared.world.World.{World}
 

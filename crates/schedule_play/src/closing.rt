@@ -25,7 +25,7 @@ impl<'s, D: Store> World<'s, D> {
     ghost use Rattle.schedule_play.specs.Making.{stores_of};
     ghost use Rattle.schedule_play.specs.Rows.{HasFailed};
     ghost use Rattle.schedule_play.specs.Gathering.{IsBlank, IsClosable, IsGathered};
-    ghost use Rattle.schedule_play.specs.Headline.{results};
+    ghost use Rattle.histories.specs.Results.{results};
 
     /// Gathers the results, the contents, the cells and the open rows. A store that fails ends the reading, and its bay
     /// is named.

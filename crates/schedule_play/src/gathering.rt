@@ -3,7 +3,7 @@ ghost use Rattle.std.specs.Prelude.{◌≡◌, ◌<◌, ◌^◌, IfOk, length, s
 ghost use Rattle.raid_base.specs.declared.numbers.HostNo.{HostNo};
 ghost use Rattle.script_text.specs.Script.{host_numbers, jobs_of};
 ghost use Rattle.script_text.specs.Ranges.{IsScript};
-ghost use Rattle.host_engine.specs.Bounds.{host_contents};
+ghost use Rattle.histories.specs.Bounds.{host_contents};
 ghost use Rattle.schedule_play.specs.Gathering.{IsBlank, job_count};
 
 use host_engine::lookup;

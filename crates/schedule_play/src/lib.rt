@@ -3,7 +3,6 @@
 
 pub mod closing;
 pub mod gathering;
-pub mod laws;
 pub mod making;
 mod playing;
 pub mod results;

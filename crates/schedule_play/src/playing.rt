@@ -3,10 +3,10 @@ ghost use Rattle.std.specs.Prelude.{◌≡◌, ◌<◌, ◌^◌, List, [], lengt
 ghost use Rattle.std.specs.List.{Contains};
 ghost use Rattle.raid_base.specs.declared.messages.Call.{Call};
 ghost use Rattle.script_text.specs.Script.{Script, host_numbers};
-ghost use Rattle.host_engine.specs.Asked.{AreAsked};
-ghost use Rattle.host_engine.specs.Bounds.{IsPlayable};
-ghost use Rattle.host_engine.specs.History.{has_ended};
-ghost use Rattle.schedule_play.specs.Turns.{next_host, next_moment, last_moment};
+ghost use Rattle.histories.specs.Asked.{AreAsked};
+ghost use Rattle.histories.specs.Bounds.{IsPlayable};
+ghost use Rattle.histories.specs.History.{has_ended};
+ghost use Rattle.histories.specs.Turns.{next_host, next_moment, last_moment};
 ghost use Rattle.schedule_play.specs.Plays.{unless_ended};
 ghost use Rattle.schedule_play.specs.World.{HostShows};
 

@@ -25,8 +25,8 @@ pub struct World<'s, D: Store> {
 
 impl<'s, D: Store> World<'s, D> {
     ghost use Rattle.schedule_play.specs.World.{Shows, Turned, IsReady, AllTell, Keeps, turn_of};
-    ghost use Rattle.host_engine.specs.Progress.{asks};
-    ghost use Rattle.host_engine.specs.History.{progress_at};
+    ghost use Rattle.histories.specs.Progress.{asks};
+    ghost use Rattle.histories.specs.History.{progress_at};
     ghost use Rattle.host_engine.specs.declared.host.Host.{Host as HostView};
 
     /// One request of the host at this place is handled and taken. False where the host has ended, and then nothing changes.

@@ -1,4 +1,4 @@
-use Rattle.host_engine.proofs.ScriptLemmas.{jobs-aimed, jobs-sized, jobs-held}
+use Rattle.histories.proofs.bounds.ScriptLemmas.{jobs-aimed, jobs-sized, jobs-held}
 use Rattle.host_engine.proofs.ReadyLemmas.{ready-fresh}
 use Rattle.host_engine.proofs.host_tests.make_host.Goals as goal
 

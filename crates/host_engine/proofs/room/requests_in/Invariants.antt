@@ -1,6 +1,6 @@
 use Rattle.std.proofs.Common.{◌≡◌, ◌≤◌, ◌*◌, take}
 use Rattle.std.specs.Prelude.{sum_by}
-use Rattle.host_engine.specs.Bounds.{job_requests}
+use Rattle.histories.specs.Bounds.{job_requests}
 use Rattle.host_engine.proofs.room.requests_in.Given as goal
 
 abbrev pub invariant-loop-job : goal.invariant-loop-job

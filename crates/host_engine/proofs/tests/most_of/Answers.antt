@@ -1,7 +1,7 @@
 use Rattle.std.proofs.Common.{◌≡◌, true, List, subst, sym}
 use Rattle.raid_base.specs.declared.jobs.Job.{Job}
-use Rattle.host_engine.specs.Plain.{are_sized}
-use Rattle.host_engine.proofs.ScriptLemmas.{jobs-sized}
+use Rattle.histories.specs.Plain.{are_sized}
+use Rattle.histories.proofs.bounds.ScriptLemmas.{jobs-sized}
 use Rattle.host_engine.proofs.tests.most_of.Goals as goal
 
 pub requests_in-requires-clause-sized : goal.requests_in-requires-clause-sized

@@ -3,7 +3,7 @@ use Rattle.std.specs.Prelude.{sum_by}
 use Rattle.std.proofs.lemmas.List.{take_all}
 use Rattle.raid_base.specs.declared.jobs.Job.{Job}
 use Rattle.script_text.specs.Script.{HostJobs, jobs_of}
-use Rattle.host_engine.specs.Bounds.{job_contents, host_contents}
+use Rattle.histories.specs.Bounds.{job_contents, host_contents}
 use Rattle.schedule_play.proofs.MakeLemmas.{jobs-sized, jobs-of-item}
 use Rattle.schedule_play.proofs.GatherLemmas.{hosts-few, sum-by-hosts, sum-more, contents-few}
 use Rattle.schedule_play.proofs.gathering.content_count.Goals.{After-as_slice}

@@ -1,7 +1,7 @@
 use Rattle.std.proofs.Common.{◌≡◌, ◌≤◌, ◌*◌, ◌^◌, take}
 use Rattle.std.specs.Prelude.{sum_by}
 use Rattle.script_text.specs.Script.{HostJobs}
-use Rattle.host_engine.specs.Bounds.{host_contents}
+use Rattle.histories.specs.Bounds.{host_contents}
 use Rattle.schedule_play.proofs.gathering.content_count.Given as goal
 
 abbrev pub invariant-loop-jobs : goal.invariant-loop-jobs

@@ -3,8 +3,8 @@ use Rattle.std.specs.Prelude.{sum_by}
 use Rattle.std.proofs.lemmas.List.{take_all}
 use Rattle.raid_base.specs.declared.jobs.Job.{Job}
 use Rattle.script_text.specs.Script.{HostJobs, jobs_of}
-use Rattle.host_engine.specs.Bounds.{host_requests}
-use Rattle.host_engine.specs.Plain.{are_sized}
+use Rattle.histories.specs.Bounds.{host_requests}
+use Rattle.histories.specs.Plain.{are_sized}
 use Rattle.schedule_play.proofs.MakeLemmas.{jobs-sized, jobs-of-item, all-by-hosts, requests-step, IsSumWith}
 use Rattle.schedule_play.proofs.making.all_requests.Goals as goal
 

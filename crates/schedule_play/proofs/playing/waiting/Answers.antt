@@ -1,6 +1,6 @@
 use Rattle.std.proofs.Common.{◌≡◌, refl, ◌∙◌, Bool, true, false, if◌then◌else◌, Some, None}
 use Rattle.raid_base.specs.declared.numbers.HostNo.{HostNo}
-use Rattle.host_engine.specs.History.{has_ended}
+use Rattle.histories.specs.History.{has_ended}
 use Rattle.schedule_play.specs.Plays.{unless_ended}
 use Rattle.schedule_play.proofs.playing.waiting.Goals as goal
 

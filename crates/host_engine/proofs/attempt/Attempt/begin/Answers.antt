@@ -1,4 +1,4 @@
-use Rattle.host_engine.specs.Plain.{task_blocks}
+use Rattle.histories.specs.Plain.{task_blocks}
 use Rattle.host_engine.proofs.AttemptLemmas.{read-still, write-still}
 use Rattle.host_engine.proofs.attempt.Attempt.begin.Goals as goal
 

@@ -1,7 +1,7 @@
 use Rattle.std.proofs.Common.{sym, ap, ◌∙◌}
 use Rattle.raid_base.specs.Steps.{answer}
 use Rattle.host_engine.specs.Left.{left_of}
-use Rattle.host_engine.specs.Plain.{contents_in}
+use Rattle.histories.specs.Plain.{contents_in}
 use Rattle.host_engine.specs.declared.attempt.Kind.{Kind}
 use Rattle.host_engine.proofs.AttemptLemmas.{nothing-written, nothing-restored, nothing-rebuilt}
 use Rattle.host_engine.proofs.attempt.Attempt.contents.Goals as goal

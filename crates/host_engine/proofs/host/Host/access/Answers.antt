@@ -1,6 +1,6 @@
 use Rattle.std.proofs.Common.{sym, ap, ◌∙◌}
 use Rattle.script_text.specs.Script.{Script}
-use Rattle.host_engine.specs.Plain.{task_parts}
+use Rattle.histories.specs.Plain.{task_parts}
 use Rattle.host_engine.specs.Parts.{parts_as_items}
 use Rattle.host_engine.proofs.HostLemmas.{begins-parts, begins-refused}
 use Rattle.host_engine.proofs.host.Host.access.Goals as goal

@@ -1,6 +1,6 @@
 use Rattle.std.proofs.Common.{get_or, ap, subst}
 use Rattle.raid_base.specs.declared.jobs.Task.TheVariants as tasks
-use Rattle.host_engine.specs.Plain.{is_plain_task}
+use Rattle.histories.specs.Plain.{is_plain_task}
 use Rattle.host_engine.specs.Stands.{FirstTask}
 use Rattle.host_engine.proofs.HostLemmas.{begins-as, begins-access, begins-recover, first-at}
 use Rattle.host_engine.proofs.host.Host.begin_job.Goals as goal

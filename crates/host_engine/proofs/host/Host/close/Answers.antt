@@ -1,7 +1,7 @@
 use Rattle.std.proofs.Common.{sym, ◌∙◌, subst}
 use Rattle.host_engine.specs.Left.{contents_kept}
 use Rattle.host_engine.specs.Stands.{Stands}
-use Rattle.host_engine.specs.Progress.{Progress, next_job, with_ending}
+use Rattle.histories.specs.Progress.{Progress, next_job, with_ending}
 use Rattle.host_engine.proofs.HostLemmas.{ended-on, ended-over, stopped-stands}
 use Rattle.host_engine.proofs.host.Host.close.Goals as goal
 

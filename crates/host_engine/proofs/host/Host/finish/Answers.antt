@@ -3,7 +3,7 @@ use Rattle.raid_base.specs.declared.jobs.Ended.{Ended}
 use Rattle.host_engine.specs.declared.attempt.Kept.TheVariants.{Contents}
 use Rattle.host_engine.specs.Left.{contents_kept}
 use Rattle.host_engine.specs.Stands.{Stands}
-use Rattle.host_engine.specs.Progress.{attempt_ended}
+use Rattle.histories.specs.Progress.{attempt_ended}
 use Rattle.host_engine.proofs.host.Host.finish.Goals as goal
 
 pub returns-in-Read-clause-stands : goal.returns-in-Read-clause-stands

@@ -3,7 +3,7 @@ use Rattle.std.proofs.Math.Seq.{take-length}
 use Rattle.std.proofs.lemmas.List.{length-drop}
 use Rattle.raid_base.specs.Steps.{told}
 use Rattle.host_engine.specs.Left.{left, Suits}
-use Rattle.host_engine.specs.Plain.{first_blocks}
+use Rattle.histories.specs.Plain.{first_blocks}
 use Rattle.host_engine.proofs.host.Host.hear.Goals as goal
 
 pub returns : goal.returns

@@ -2,10 +2,10 @@ use Rattle.std.proofs.Common.{[], None, refl, sym, ap, ◌∙◌, arith}
 use Rattle.std.specs.Prelude.{List, sum_by}
 use Rattle.std.specs.Vec.{vec_capacity}
 use Rattle.raid_base.specs.declared.jobs.Job.{Job}
-use Rattle.host_engine.specs.Bounds.{job_requests, job_contents}
+use Rattle.histories.specs.Bounds.{job_requests, job_contents}
 use Rattle.raid_base.specs.Numbers.{number}
 use Rattle.script_text.specs.Script.{jobs_of}
-use Rattle.host_engine.specs.Progress.{Progress, Over}
+use Rattle.histories.specs.Progress.{Progress, Over}
 use Rattle.host_engine.proofs.host.Host.make.Goals as goal
 
 pub returns : goal.returns

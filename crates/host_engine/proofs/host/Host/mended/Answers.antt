@@ -1,5 +1,5 @@
 use Rattle.std.proofs.Common.{true, false, refl, sym, ◌∙◌, None}
-use Rattle.host_engine.specs.Progress.{next_row}
+use Rattle.histories.specs.Progress.{next_row}
 use Rattle.host_engine.proofs.HostLemmas.{mended-stands, last-is, last-not, counts-gone, counts-row, quit-stands, more-stands}
 use Rattle.host_engine.proofs.host.Host.mended.Goals as goal
 

@@ -1,5 +1,5 @@
 use Rattle.std.proofs.Common.{sym, ◌∙◌, ◌≤◌, length, subst, Bool, false, arith}
-use Rattle.host_engine.specs.Progress.{Progress}
+use Rattle.histories.specs.Progress.{Progress}
 use Rattle.host_engine.specs.Stands.{Stands, Skips, BeginsFirst}
 use Rattle.host_engine.proofs.HostLemmas.{start-more, start-over, start-stands}
 use Rattle.host_engine.proofs.host.Host.start.Goals as goal

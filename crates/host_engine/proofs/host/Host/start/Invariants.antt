@@ -1,7 +1,7 @@
 use Rattle.std.proofs.Common.{◌≡◌, ◌-◌, length, None}
 use Rattle.raid_base.specs.declared.numbers.HostNo.{HostNo}
 use Rattle.script_text.specs.Script.{Script}
-use Rattle.host_engine.specs.Progress.{Progress, start_jobs}
+use Rattle.histories.specs.Progress.{Progress, start_jobs}
 use Rattle.host_engine.specs.Stands.{Counts, KeepsRoom}
 use Rattle.host_engine.proofs.host.Host.start.Given as goal
 

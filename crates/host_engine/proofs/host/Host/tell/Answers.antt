@@ -1,6 +1,6 @@
 use Rattle.std.proofs.Common.{refl, sym, ◌∙◌, subst}
 use Rattle.host_engine.specs.Left.{contents_kept}
-use Rattle.host_engine.specs.Progress.{Progress}
+use Rattle.histories.specs.Progress.{Progress}
 use Rattle.host_engine.specs.Stands.{Stands}
 use Rattle.host_engine.specs.declared.attempt.Kept.TheVariants.{Contents}
 use Rattle.host_engine.proofs.AttemptLemmas.{same-contents}

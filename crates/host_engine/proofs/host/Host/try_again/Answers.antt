@@ -1,6 +1,6 @@
 use Rattle.std.proofs.Common.{get_or, sym, subst, Bool}
 use Rattle.host_engine.specs.Stands.{FirstTask, Begins, Stands, Skips}
-use Rattle.host_engine.specs.Progress.{Progress, try_task}
+use Rattle.histories.specs.Progress.{Progress, try_task}
 use Rattle.host_engine.proofs.HostLemmas.{first-at, first-task, tried-first, again-begun, again-spent}
 use Rattle.host_engine.proofs.host.Host.try_again.Goals as goal
 

@@ -1,7 +1,7 @@
 use Rattle.std.proofs.Common.{refl, sym, ◌∙◌, ap, ◌+◌}
 use Rattle.place_numbers.specs.declared.Numbers.{Numbers}
 use Rattle.raid_base.specs.Numbers.{seen_drawn}
-use Rattle.host_engine.specs.Progress.{one_more}
+use Rattle.histories.specs.Progress.{one_more}
 use Rattle.host_engine.proofs.HostLemmas.{stands-tried, counts-spent, tried-spent}
 use Rattle.host_engine.proofs.host.Host.try_task.Goals as goal
 

@@ -7,7 +7,7 @@ use Rattle.raid_base.specs.declared.cells.Cell.{Cell}
 use Rattle.raid_base.specs.declared.cells.Content.{Content}
 use Rattle.script_text.specs.Script.{Script, host_numbers}
 use Rattle.host_engine.specs.declared.host.Host.{Host}
-use Rattle.host_engine.specs.Bounds.{host_contents}
+use Rattle.histories.specs.Bounds.{host_contents}
 use Rattle.schedule_play.specs.Gathering.{job_count}
 use Rattle.schedule_play.specs.Rows.{ShowRows, HasFailed, cells_after, opened_after}
 use Rattle.schedule_play.specs.World.{EachAt, BayShows, AllTell, AreOver}

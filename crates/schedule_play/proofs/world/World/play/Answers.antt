@@ -1,5 +1,5 @@
 use Rattle.std.proofs.Common.{◌<◌, ◌^◌, ℕ, sym, ◌∙◌, ap, subst}
-use Rattle.schedule_play.specs.Turns.{last_moment}
+use Rattle.histories.specs.Turns.{last_moment}
 use Rattle.schedule_play.proofs.PlayLemmas.{last-small}
 use Rattle.schedule_play.proofs.KeepLemmas.{keeps-both}
 use Rattle.schedule_play.proofs.world.World.play.Goals as goal

@@ -1,7 +1,7 @@
 use Rattle.std.proofs.Common.{◌≡◌, ◌<◌, ◌-◌, ◌^◌}
 use Rattle.std.specs.Vec.{vec_len}
 use Rattle.script_text.specs.Script.{Script}
-use Rattle.schedule_play.specs.Turns.{last_moment}
+use Rattle.histories.specs.Turns.{last_moment}
 use Rattle.schedule_play.specs.Plays.{HasPlayed}
 use Rattle.schedule_play.specs.World.{IsReady, AllTell, Keeps, all_requests}
 use Rattle.schedule_play.proofs.PlayLemmas.{HasReached}

@@ -2,7 +2,7 @@ use Rattle.std.proofs.Common.{◌<◌, ◌^◌, refl, subst, arith, is_some, sym
 use Rattle.host_engine.specs.declared.host.Host.{Host}
 use Rattle.host_engine.specs.Stands.{CanTake, IsSentBy}
 use Rattle.script_text.specs.Script.{Script}
-use Rattle.host_engine.specs.Bounds.{IsPlayable}
+use Rattle.histories.specs.Bounds.{IsPlayable}
 use Rattle.schedule_play.specs.World.{all_requests}
 use Rattle.schedule_play.proofs.TurnLemmas.{turn-facts, read-bay, ask-fits-bay, can-take, shown-sent}
 use Rattle.schedule_play.proofs.TurnedLemmas.{one-script, tells-asked, tells-back, tells-on, turned-none, turned-some}

@@ -1,0 +1,2 @@
+pub mod leftovers
+pub mod lone

@@ -1,0 +1,16 @@
+//! Laws of attempts, each the contract of a function without a body.
+ghost use Rattle.histories.specs.Leftovers.{RefusedLeaveNothing};
+ghost use Rattle.attempt_laws.specs.Lone.{LoneHostsAreDone};
+
+/// A refused attempt leaves nothing: after every history of a script each note and each reader that stands in a slot has
+/// the id of an attempt of its host that is in hand, or that its host's stop has ended, or that was done in part, or that
+/// is a recovery.
+pub fn refused_attempts_leave_nothing()
+    ensures { RefusedLeaveNothing }
+{}
+
+/// One host alone is never refused: along every history of a script whose jobs are all of one host, which only reads and
+/// writes and is not to stop, and in which no bay has answered Fault, each job that has parts is done at its first attempt.
+pub fn lone_hosts_are_done()
+    ensures { LoneHostsAreDone }
+{}

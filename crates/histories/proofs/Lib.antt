@@ -1,0 +1,10 @@
+pub mod accesses
+pub mod bounds
+pub mod causes
+pub mod completeness
+pub mod endings
+pub mod examples
+pub mod hands
+pub mod missing
+pub mod smallness
+pub mod steps

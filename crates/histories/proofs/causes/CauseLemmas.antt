@@ -1,0 +1,396 @@
+-- What stands behind a cause in the calls so far, and walks that keep these calls.
+use Rattle.std.proofs.Common.{◌≡◌, ◌≢◌, inl, inr, refl, sym, ap, subst, ◌∙◌, ℕ, ◌==◌, Bool, true, false, if◌then◌else◌, List, [], ◌∷◌, Option, Some, None, IfSome, Result, Ok, Err, option_map, unwrap_or, ok_or, arith}
+use Rattle.std.specs.Prelude.{IsNone}
+use Rattle.std.specs.List.{AllByRecursion}
+use Rattle.std.proofs.lemmas.Bool.{eq-eqb}
+use Rattle.std.proofs.lemmas.Bool.Decides.{nat_tests}
+use Rattle.raid_base.specs.declared.numbers.BayNo.{BayNo}
+use Rattle.raid_base.specs.declared.numbers.HostNo.{HostNo}
+use Rattle.raid_base.specs.declared.numbers.RowNo.{RowNo}
+use Rattle.raid_base.specs.declared.numbers.Number.{Number}
+use Rattle.raid_base.specs.declared.numbers.Spent.{Spent}
+use Rattle.raid_base.specs.declared.cells.Cell.{Cell}
+use Rattle.raid_base.specs.declared.messages.Mode.{Mode}
+use Rattle.raid_base.specs.declared.messages.Mode.TheVariants.{Lock, Order}
+use Rattle.raid_base.specs.declared.messages.How.{How}
+use Rattle.raid_base.specs.declared.messages.How.TheVariants.{Plain, Seize, Mend}
+use Rattle.raid_base.specs.declared.messages.Request.{Request}
+use Rattle.raid_base.specs.declared.messages.Request.TheVariants.{Share, Claim}
+use Rattle.raid_base.specs.declared.messages.Reply.{Reply}
+use Rattle.raid_base.specs.declared.messages.Reply.TheVariants as replies
+use Rattle.raid_base.specs.declared.messages.Errand.{Errand}
+use Rattle.raid_base.specs.declared.messages.Grant.{Grant}
+use Rattle.raid_base.specs.declared.messages.Call.{Call}
+use Rattle.raid_base.specs.declared.jobs.Cause.{Cause}
+use Rattle.raid_base.specs.declared.jobs.Cause.TheVariants as causes
+use Rattle.raid_base.specs.declared.jobs.Ended.{Ended}
+use Rattle.raid_base.specs.declared.jobs.Ended.TheVariants as ends
+use Rattle.raid_base.specs.declared.jobs.Task.{Task}
+use Rattle.raid_base.specs.declared.jobs.Task.TheVariants as tasks
+use Rattle.raid_base.specs.Fits.{fits}
+use Rattle.raid_base.specs.Numbers.{next_number, draw}
+use Rattle.raid_base.specs.Replies.{grant_of}
+use Rattle.raid_base.specs.Steps.{Steps, Asks, Draws, Ends, bind, go_on, Walk, Through, Stopped, Phase, run, errand_of}
+use Rattle.stripe_layout.specs.Placement.{parity_bay}
+use Rattle.attempts.specs.Taking.{Finish, Row, Taken, is_behind, behind_from, broken, refusal, with_grant, unless, taking, why, with_parity, shares, claim, claims}
+use Rattle.attempts.specs.Releases.{releasing, end_as, released_steps, refused_steps}
+use Rattle.script_text.specs.Script.{Script}
+use Rattle.histories.specs.Progress.{Ending}
+use Rattle.histories.specs.Calls.{Happened, HappenedAfter, id_of, Answers}
+use Rattle.histories.specs.Causes.{IsFloorFrom, IsReadOrWrite, IsMissingAt, IsGone, IsGranted, IsLacking, IsChanged, IsReleaseIn, IsPutIn, IsCauseIn}
+
+-- the cause stands in these calls of an attempt of this task; that the host stops is no cause of an attempt
+abbrev pub Stands : Script → HostNo → Task → List Call → Cause → Type 0
+Stands script host task calls (causes.Busy holder) = Happened (Answers (replies.Busy holder)) calls
+Stands script host task calls (causes.Late above) = Happened (Answers (replies.Late above)) calls
+Stands script host task calls (causes.Young note) = Happened (Answers (replies.Young note)) calls
+Stands script host task calls (causes.Behind floor) = (script.mode ≡ Order) × IsReadOrWrite task × Happened (IsFloorFrom floor) calls
+Stands script host task calls (causes.Fault bay) = Happened (λ call. (call.bay ≡ bay) × Answers replies.Fault call) calls
+Stands script host task calls (causes.Broken first second) = HappenedAfter (IsMissingAt second) (IsMissingAt first) calls × (first ≢ second)
+Stands script host task calls (causes.Gone bay) = IsGone script host bay task calls
+Stands script host task calls (causes.Changed row) = IsChanged script.n row calls
+Stands script host task calls (causes.Released row) = (script.mode ≡ Lock) × Happened (IsReleaseIn row) calls
+Stands script host task calls (causes.Seized row) = Happened (IsPutIn row) calls
+Stands script host task calls (causes.Spent seen) = IsNone (next_number host seen)
+Stands script host task calls causes.Quit = ⊥
+
+pub stands-in : (script : Script) (host : HostNo) (e : Ending) (cause : Cause) → Stands script host e.job.task e.calls cause → IsCauseIn script host e cause
+stands-in script host e (causes.Busy holder) s = s
+stands-in script host e (causes.Late above) s = s
+stands-in script host e (causes.Young note) s = s
+stands-in script host e (causes.Behind floor) s = s
+stands-in script host e (causes.Fault bay) s = s
+stands-in script host e (causes.Broken first second) s = s
+stands-in script host e (causes.Gone bay) s = s
+stands-in script host e (causes.Changed row) s = s
+stands-in script host e (causes.Released row) s = s
+stands-in script host e (causes.Seized row) s = s
+stands-in script host e (causes.Spent seen) s = s
+stands-in script host e causes.Quit s = absurd s
+
+-- what happened stays true under one more call
+gone-more : (script : Script) (host : HostNo) (bay : BayNo) (task : Task) (calls : List Call) (call : Call) → IsGone script host bay task calls → IsGone script host bay task (call ∷ calls)
+gone-more script host bay (tasks.Rebuild target) calls call (inl h) = inl (inr h)
+gone-more script host bay (tasks.Rebuild target) calls call (inr h) = inr (h.0, inr h.1)
+gone-more script host bay (tasks.Recover row) calls call h = (h.0, h.1, inr h.2)
+gone-more script host bay (tasks.Read object first count) calls call h = absurd h
+gone-more script host bay (tasks.Write object first from count) calls call h = absurd h
+gone-more script host bay (tasks.Lose at) calls call h = absurd h
+gone-more script host bay (tasks.Fit at) calls call h = absurd h
+
+changed-more : (n : ℕ) (row : RowNo) (calls : List Call) (call : Call) → IsChanged n row calls → IsChanged n row (call ∷ calls)
+changed-more n row calls call (inl h) = inl (inr h)
+changed-more n row calls call (inr h) = inr (inr h)
+
+-- the bay that was missing, if any, was so in these calls
+abbrev pub MissingTold : Option BayNo → List Call → Type 0
+MissingTold None calls = Unit {0}
+MissingTold (Some bay) calls = Happened (IsMissingAt bay) calls
+
+pub missing-more : (o : Option BayNo) (calls : List Call) (call : Call) → MissingTold o calls → MissingTold o (call ∷ calls)
+missing-more None calls call h = tt
+missing-more (Some bay) calls call h = inr h
+
+-- and so was the claim of a row's parity
+abbrev pub ParityTold : ℕ → RowNo → Option Grant → List Call → Type 0
+ParityTold n row None calls = Happened (IsLacking n row) calls
+ParityTold n row (Some grant) calls = Happened (IsGranted n row) calls
+
+pub parity-more : (n : ℕ) (row : RowNo) (o : Option Grant) (calls : List Call) (call : Call) → ParityTold n row o calls → ParityTold n row o (call ∷ calls)
+parity-more n row None calls call h = inr h
+parity-more n row (Some grant) calls call h = inr h
+
+-- the call answers this errand, by a reply that fits
+pub record IsReply (errand : Errand) (call : Call) : Type 0 where
+  pub asked : errand_of call ≡ errand
+  pub fit : fits errand.request call.answer.reply ≡ true
+
+module _ {errand : Errand} {call : Call} where
+  pub bay-asked : IsReply errand call → call.bay ≡ errand.bay
+  bay-asked is = ap (λ (e : Errand). e.bay) is.asked
+
+  pub what-asked : IsReply errand call → call.ask.what ≡ errand.request
+  what-asked is = ap (λ (e : Errand). e.request) is.asked
+
+-- a host that stops has no other cause
+abbrev pub IsStopCause : Ended → Type 0
+IsStopCause (ends.Read n) = Unit {0}
+IsStopCause (ends.Wrote n) = Unit {0}
+IsStopCause (ends.Part n made cause) = cause ≡ causes.Quit
+IsStopCause (ends.Recovered n closed lost) = Unit {0}
+IsStopCause (ends.Refused cause) = Unit {0}
+IsStopCause ends.Mended = Unit {0}
+
+-- Whatever the calls that answer what is asked, by replies that fit, and whatever the host has seen where it draws: the end
+-- is Q of the calls, the newest first, and where the host stops before it the cause is that.
+abbrev pub Caused : {A : Type 0} → HostNo → (List Call → A → Type 0) → List Call → Steps A → Type 0
+Caused host Q calls (Ends a) = Q calls a
+Caused host Q calls (Draws k) = (seen : Number) → Caused host Q calls (k (draw host seen))
+Caused host Q calls (Asks e s c k) = IsStopCause s × ((call : Call) → IsReply e call → Caused host Q (call ∷ calls) (k call.answer.reply))
+
+-- Walks
+module _ {A B : Type 0} (host : HostNo) (Q : List Call → B → Type 0) where
+  pub caused-go : (J : A → Type 0) (calls : List Call) (o : Option A) (g : A → Steps (Walk A)) (s : Steps (Walk A)) (f : Walk A → Steps B)
+      → IfSome o J → ((a : A) → J a → Caused host Q calls (bind (g a) f)) → (o ≡ None → Caused host Q calls (bind s f)) → Caused host Q calls (bind (go_on o g s) f)
+  caused-go J calls (Some a) g s f i on off = on a i
+  caused-go J calls None g s f i on off = off refl
+
+  pub caused-walk : (P : Errand → Type 0) (I : List Call → A → Type 0) (phase : Phase A) (f : Walk A → Steps B) → ((a : A) → IsStopCause (phase.stop a))
+      → ((e : Errand) (calls : List Call) (a : A) (call : Call) → P e → I calls a → IsReply e call → IfSome (phase.step a e call.answer.reply) (I (call ∷ calls)))
+      → ((calls : List Call) (a : A) → I calls a → Caused host Q calls (f (Through a)))
+      → ((e : Errand) (calls : List Call) (a : A) (call : Call) → P e → I calls a → IsReply e call → phase.step a e call.answer.reply ≡ None
+      → Caused host Q (call ∷ calls) (f (Stopped a e call.answer.reply)))
+      → (es : List Errand) (calls : List Call) (a : A) → AllByRecursion P es → I calls a → Caused host Q calls (bind (run phase es a) f)
+  caused-walk P I phase f stops kept on off [] calls a all i = on calls a i
+  caused-walk P I phase f stops kept on off (e ∷ es) calls a all i = (
+    stops a,
+    λ call is. caused-go (I (call ∷ calls)) (call ∷ calls) (phase.step a e call.answer.reply) (λ b. run phase es b) (Ends (Stopped a e call.answer.reply)) f
+        (kept e calls a call all.0 i is)
+        (λ b ib. caused-walk P I phase f stops kept on off es (call ∷ calls) b all.1 ib)
+        (off e calls a call all.0 i is),
+  )
+
+  -- of one errand
+  pub caused-one : (phase : Phase A) (f : Walk A → Steps B) (e : Errand) (calls : List Call) (a : A) → IsStopCause (phase.stop a)
+      → ((call : Call) → IsReply e call → IfSome (phase.step a e call.answer.reply) (λ b. Caused host Q (call ∷ calls) (f (Through b))))
+      → ((call : Call) → IsReply e call → phase.step a e call.answer.reply ≡ None → Caused host Q (call ∷ calls) (f (Stopped a e call.answer.reply)))
+      → Caused host Q calls (bind (run phase (e ∷ []) a) f)
+  caused-one phase f e calls a stop on off = (
+    stop,
+    λ call is. caused-go (λ b. Caused host Q (call ∷ calls) (f (Through b))) (call ∷ calls) (phase.step a e call.answer.reply) (λ b. run phase [] b)
+        (Ends (Stopped a e call.answer.reply)) f (on call is) (λ b ok. ok) (off call is),
+  )
+
+-- what is so of every value, and what is not there
+pub passed : {X : Type 0} (P : X → Type 0) (o : Option X) → ((x : X) → P x) → IfSome o P
+passed P None h = tt
+passed P (Some x) h = h x
+
+pub some-none : {X : Type 0} {x : X} → Some x ≡ None → ⊥
+some-none e = cc
+
+-- any errands at all
+pub any-errands : (es : List Errand) → AllByRecursion (λ e. Unit {0}) es
+any-errands [] = tt
+any-errands (e ∷ es) = (tt, any-errands es)
+
+-- a number is drawn, or there is none
+pub caused-draw : {B : Type 0} (host : HostNo) (Q : List Call → B → Type 0) (calls : List Call) (f : Result Number Spent → Steps B)
+    → ((n : Number) → Caused host Q calls (f (Ok n)))
+    → ((spent : Spent) → IsNone (next_number host spent.seen) → Caused host Q calls (f (Err spent)))
+    → (seen : Number) → Caused host Q calls (f (draw host seen))
+caused-draw host Q calls f on off seen = by (next_number host seen) refl where
+  by : (o : Option Number) → next_number host seen ≡ o → Caused host Q calls (f (ok_or o (record { seen = seen })))
+  by (Some n) e = on n
+  by None e = off (record { seen = seen }) (subst IsNone (sym e) refl)
+
+-- Requests that take a slot
+pub record IsTake (what : Request) : Type 0 where
+  pub held : (cell : Option Cell) → fits what (replies.Held cell) ≡ false
+  pub unnoted : (life : ℕ) → fits what (replies.NoNote life) ≡ false
+  pub done : fits what replies.Done ≡ false
+  pub emptied : fits what replies.Emptied ≡ false
+  pub fitted : fits what replies.Fitted ≡ false
+
+pub share-takes : (row : RowNo) (id : Number) (want : Bool) → IsTake (Share row id want)
+share-takes row id want = record { held = λ cell. refl; unnoted = λ life. refl; done = refl; emptied = refl; fitted = refl }
+
+pub claim-takes : (row : RowNo) (id : Number) (how : How) (mask : ℕ) (want : Bool) → IsTake (Claim row id how mask want)
+claim-takes row id Plain mask want = record { held = λ cell. refl; unnoted = λ life. refl; done = refl; emptied = refl; fitted = refl }
+claim-takes row id Seize mask want = record { held = λ cell. refl; unnoted = λ life. refl; done = refl; emptied = refl; fitted = refl }
+claim-takes row id Mend mask want = record { held = λ cell. refl; unnoted = λ life. refl; done = refl; emptied = refl; fitted = refl }
+
+-- a reply grants, or the slot is missing
+abbrev pub GrantOrGap : Reply → Option Grant → Type 0
+GrantOrGap r (Some grant) = grant_of r ≡ Some grant
+GrantOrGap r None = (floor : Number) × (r ≡ replies.Missing floor)
+
+unless-some : {X : Type 0} (P : X → Type 0) (o : Option Cause) (x : X) → P x → IfSome (unless o x) P
+unless-some P None x p = p
+unless-some P (Some cause) x p = tt
+
+pub take-told : (what : Request) → IsTake what → (least : Option Number) (missing : Option BayNo) (bay : BayNo) (r : Reply) → fits what r ≡ true
+    → IfSome (unless (refusal least missing bay r) (grant_of r)) (GrantOrGap r)
+take-told what t least missing bay (replies.Granted cell read_no write_no last life seized) fit = refl
+take-told what t least missing bay (replies.Busy holder) fit = tt
+take-told what t least missing bay (replies.Late above) fit = tt
+take-told what t least missing bay (replies.Young note) fit = tt
+take-told what t least missing bay (replies.Missing floor) fit =
+    unless-some (GrantOrGap (replies.Missing floor)) (refusal least missing bay (replies.Missing floor)) None (floor, refl)
+take-told what t least missing bay (replies.Held cell) fit = let h : fits what (replies.Held cell) ≡ false = t.held cell in cc
+take-told what t least missing bay (replies.NoNote life) fit = let h : fits what (replies.NoNote life) ≡ false = t.unnoted life in cc
+take-told what t least missing bay replies.Done fit = let h : fits what replies.Done ≡ false = t.done in cc
+take-told what t least missing bay replies.Fault fit = tt
+take-told what t least missing bay replies.Emptied fit = let h : fits what replies.Emptied ≡ false = t.emptied in cc
+take-told what t least missing bay replies.Fitted fit = let h : fits what replies.Fitted ≡ false = t.fitted in cc
+
+module _ (script : Script) (host : HostNo) (task : Task) where
+  -- a cause stands under more calls
+  pub stands-more : (cause : Cause) (calls : List Call) (call : Call) → Stands script host task calls cause → Stands script host task (call ∷ calls) cause
+  stands-more (causes.Busy holder) calls call s = inr s
+  stands-more (causes.Late above) calls call s = inr s
+  stands-more (causes.Young note) calls call s = inr s
+  stands-more (causes.Behind floor) calls call s = (s.0, s.1, inr s.2)
+  stands-more (causes.Fault bay) calls call s = inr s
+  stands-more (causes.Broken first second) calls call s = (inr s.0, s.1)
+  stands-more (causes.Gone bay) calls call s = gone-more script host bay task calls call s
+  stands-more (causes.Changed row) calls call s = changed-more script.n row calls call s
+  stands-more (causes.Released row) calls call s = (s.0, inr s.1)
+  stands-more (causes.Seized row) calls call s = inr s
+  stands-more (causes.Spent seen) calls call s = s
+  stands-more causes.Quit calls call s = s
+
+  -- how an attempt ends: a refusal or a part has its cause
+  abbrev pub EndStands : List Call → Ended → Type 0
+  EndStands calls (ends.Read n) = Unit {0}
+  EndStands calls (ends.Wrote n) = Unit {0}
+  EndStands calls (ends.Part n made cause) = Stands script host task calls cause
+  EndStands calls (ends.Recovered n closed lost) = Unit {0}
+  EndStands calls (ends.Refused cause) = Stands script host task calls cause
+  EndStands calls ends.Mended = Unit {0}
+
+  abbrev pub FinishStands : List Call → Finish → Type 0
+  FinishStands calls f = EndStands calls f.ended
+
+  -- what is given back changes no cause
+  pub releases-caused : (ended : Ended) → ((calls : List Call) (call : Call) → EndStands calls ended → EndStands (call ∷ calls) ended)
+      → (es : List Errand) (calls : List Call) → EndStands calls ended → Caused host FinishStands calls (released_steps es ended)
+  releases-caused ended more es calls s =
+      caused-walk host FinishStands (λ e. Unit {0}) (λ cs u. EndStands cs ended) releasing (end_as ended) (λ u. tt)
+      (λ e cs u call p i is. more cs call i) (λ cs u i. i) (λ e cs u call p i is off. more cs call i) es calls tt (any-errands es) s
+
+  pub refuses : (es : List Errand) (cause : Cause) (calls : List Call) → Stands script host task calls cause → Caused host FinishStands calls (refused_steps es cause)
+  refuses es cause calls s = releases-caused (ends.Refused cause) (λ cs call i. stands-more cause cs call i) es calls s
+
+  -- Refusals. A floor counts for reads and writes under stamps, from the id of the request on
+  abbrev pub BehindRightly : Option Number → Request → Type 0
+  BehindRightly least what = (id : Number) → least ≡ Some id → (script.mode ≡ Order) × IsReadOrWrite task × (id_of what ≡ Some id)
+
+  pub never-behind : (what : Request) → BehindRightly None what
+  never-behind what id e = cc
+
+  pub behind-rightly : (mode : Mode) → script.mode ≡ mode → IsReadOrWrite task → (id : Number) (what : Request) → id_of what ≡ Some id → BehindRightly (behind_from mode id) what
+  behind-rightly Order same plain id what of least e = (same, plain, of ∙ e)
+  behind-rightly Lock same plain id what of least e = cc
+
+  abbrev Refused : List Call → Option Cause → Type 0
+  Refused calls o = IfSome o (Stands script host task calls)
+
+  module _ (calls : List Call) (e : Errand) (call : Call) (is : IsReply e call) where
+    broken-stands : (floor : Number) → call.answer.reply ≡ replies.Missing floor → (missing : Option BayNo) → MissingTold missing calls → Refused (call ∷ calls) (broken missing e.bay)
+    broken-stands floor same None m = tt
+    broken-stands floor same (Some first) m = by (first.0 == e.bay.0) refl where
+      by : (b : Bool) → (first.0 == e.bay.0) ≡ b → Refused (call ∷ calls) (if b then None else Some (causes.Broken first e.bay))
+      by true t = tt
+      by false f = (inl ((bay-asked is, (floor, same)), m), differ) where
+        differ : first ≡ e.bay → ⊥
+        differ eq = let t : (first.0 == e.bay.0) ≡ true = eq-eqb first.0 e.bay.0 (ap (λ (b : BayNo). b.0) eq) in cc
+
+    floor-stands : (floor : Number) → call.answer.reply ≡ replies.Missing floor → (least : Option Number) → BehindRightly least e.request → is_behind least floor ≡ true
+        → Stands script host task (call ∷ calls) (causes.Behind floor)
+    floor-stands floor same None b h = cc
+    floor-stands floor same (Some id) b h =
+        let rightly = b id refl in
+        (rightly.0, rightly.1, inl (same, id, ap id_of (what-asked is) ∙ rightly.2, grind (arith, nat_tests)))
+
+    pub refusal-stands : (least : Option Number) (missing : Option BayNo) → BehindRightly least e.request → MissingTold missing calls
+        → Refused (call ∷ calls) (refusal least missing e.bay call.answer.reply)
+    refusal-stands least missing b m = by call.answer.reply refl where
+      lacks : (floor : Number) → call.answer.reply ≡ replies.Missing floor → (t : Bool) → is_behind least floor ≡ t
+          → Refused (call ∷ calls) (if t then Some (causes.Behind floor) else broken missing e.bay)
+      lacks floor same true h = floor-stands floor same least b h
+      lacks floor same false h = broken-stands floor same missing m
+
+      by : (r : Reply) → call.answer.reply ≡ r → Refused (call ∷ calls) (refusal least missing e.bay r)
+      by (replies.Granted cell read_no write_no last life seized) same = tt
+      by (replies.Busy holder) same = inl same
+      by (replies.Late above) same = inl same
+      by (replies.Young note) same = inl same
+      by (replies.Missing floor) same = lacks floor same (is_behind least floor) refl
+      by (replies.Held cell) same = tt
+      by (replies.NoNote life) same = tt
+      by replies.Done same = tt
+      by replies.Fault same = inl (bay-asked is, same)
+      by replies.Emptied same = tt
+      by replies.Fitted same = tt
+
+  -- the cause of a reply that stops
+  pub else-stands : (calls : List Call) (o : Option Cause) (other : Cause) → Refused calls o → (o ≡ None → Stands script host task calls other) → Stands script host task calls (unwrap_or o other)
+  else-stands calls None other r s = s refl
+  else-stands calls (Some cause) other r s = r
+
+  pub stopped-refused : {X Y : Type 0} (o : Option Cause) (x : X) (g : X → Y) → option_map g (unless o x) ≡ None → o ≡ None → ⊥
+  stopped-refused None x g stop e = cc
+  stopped-refused (Some cause) x g stop e = cc
+
+  -- Shares and claims
+  pub record Takes (least : Option Number) (e : Errand) : Type 0 where
+    pub take : IsTake e.request
+    pub rightly : BehindRightly least e.request
+
+  with-missing : (keep : Option Grant → Row → Row) (taken : Taken) (bay : BayNo) (calls : List Call) (call : Call) → call.bay ≡ bay
+      → (o : Option Grant) → GrantOrGap call.answer.reply o → MissingTold taken.missing calls → MissingTold (with_grant keep taken bay o).missing (call ∷ calls)
+  with-missing keep taken bay calls call at (Some grant) g m = missing-more taken.missing calls call m
+  with-missing keep taken bay calls call at None g m = inl (at, g)
+
+  module _ (least : Option Number) (f : Walk Taken → Steps Finish)
+      (off : (calls : List Call) (taken : Taken) (e : Errand) (r : Reply) → Stands script host task calls (why least taken e r) → Caused host FinishStands calls (f (Stopped taken e r))) where
+    stop-stands : (keep : Option Grant → Row → Row) (calls : List Call) (taken : Taken) (e : Errand) (call : Call) → Takes least e → IsReply e call → MissingTold taken.missing calls
+        → (taking least keep).step taken e call.answer.reply ≡ None → Caused host FinishStands (call ∷ calls) (f (Stopped taken e call.answer.reply))
+    stop-stands keep calls taken e call t is m stop =
+        off (call ∷ calls) taken e call.answer.reply
+        (else-stands (call ∷ calls) (refusal least taken.missing e.bay call.answer.reply) causes.Quit (refusal-stands calls e call is least taken.missing t.rightly m)
+        (λ none. absurd (stopped-refused (refusal least taken.missing e.bay call.answer.reply) (grant_of call.answer.reply) (with_grant keep taken e.bay) stop none)))
+
+    pub caused-takes : (keep : Option Grant → Row → Row) (K : List Call → Taken → Type 0)
+        → ((calls : List Call) (taken : Taken) (call : Call) (bay : BayNo) (o : Option Grant) → K calls taken → K (call ∷ calls) (with_grant keep taken bay o))
+        → ((calls : List Call) (taken : Taken) → MissingTold taken.missing calls → K calls taken → Caused host FinishStands calls (f (Through taken)))
+        → (es : List Errand) (calls : List Call) (taken : Taken) → AllByRecursion (Takes least) es → MissingTold taken.missing calls → K calls taken
+        → Caused host FinishStands calls (bind (run (taking least keep) es taken) f)
+    caused-takes keep K more on es calls taken all m k =
+        caused-walk host FinishStands (Takes least) (λ cs t. MissingTold t.missing cs × K cs t) (taking least keep) f (λ t. tt) kept
+        (λ cs t i. on cs t i.0 i.1) (λ e cs t call p i is stop. stop-stands keep cs t e call p is i.0 stop) es calls taken all (m, k) where
+          given : (e : Errand) (cs : List Call) (t : Taken) (call : Call) → call.bay ≡ e.bay → MissingTold t.missing cs → K cs t → (o : Option (Option Grant)) → IfSome o (GrantOrGap call.answer.reply)
+              → IfSome (option_map (with_grant keep t e.bay) o) (λ t. MissingTold t.missing (call ∷ cs) × K (call ∷ cs) t)
+          given e cs t call at m k None g = tt
+          given e cs t call at m k (Some o) g = (with-missing keep t e.bay cs call at o g m, more cs t call e.bay o k)
+
+          kept : (e : Errand) (cs : List Call) (t : Taken) (call : Call) → Takes least e → MissingTold t.missing cs × K cs t → IsReply e call
+              → IfSome ((taking least keep).step t e call.answer.reply) (λ t. MissingTold t.missing (call ∷ cs) × K (call ∷ cs) t)
+          kept e cs t call p i is =
+              given e cs t call (bay-asked is) i.0 i.1 (unless (refusal least t.missing e.bay call.answer.reply) (grant_of call.answer.reply))
+              (take-told e.request p.take least t.missing e.bay call.answer.reply is.fit)
+
+    -- the claim of a row's parity
+    parity-told : (row : RowNo) (id : Number) (how : How) (mask : ℕ) (want : Bool) (calls : List Call) (call : Call) → IsReply (claim id row how mask want (parity_bay script.n row)) call
+        → (o : Option Grant) → GrantOrGap call.answer.reply o → ParityTold script.n row o (call ∷ calls)
+    parity-told row id how mask want calls call is (Some grant) g = inl ((bay-asked is, id, how, mask, want, what-asked is), grant, g)
+    parity-told row id how mask want calls call is None g = inl ((bay-asked is, id, how, mask, want, what-asked is), g)
+
+    pub caused-parity : (row : RowNo) (id : Number) (how : How) (mask : ℕ) (want : Bool) (calls : List Call) (taken : Taken)
+        → BehindRightly least (Claim row id how mask want) → MissingTold taken.missing calls
+        → ((call : Call) (o : Option Grant) → MissingTold (with_grant with_parity taken (parity_bay script.n row) o).missing (call ∷ calls) → ParityTold script.n row o (call ∷ calls)
+        → Caused host FinishStands (call ∷ calls) (f (Through (with_grant with_parity taken (parity_bay script.n row) o))))
+        → Caused host FinishStands calls (bind (run (taking least with_parity) (claim id row how mask want (parity_bay script.n row) ∷ []) taken) f)
+    caused-parity row id how mask want calls taken b m on =
+        caused-one host FinishStands (taking least with_parity) f e calls taken tt
+        (λ call is. given call is (unless (refusal least taken.missing e.bay call.answer.reply) (grant_of call.answer.reply))
+        (take-told e.request (claim-takes row id how mask want) least taken.missing e.bay call.answer.reply is.fit))
+        (λ call is stop. stop-stands with_parity calls taken e call (record { take = claim-takes row id how mask want; rightly = b }) is m stop) where
+          e : Errand
+          e = claim id row how mask want (parity_bay script.n row)
+
+          given : (call : Call) → IsReply e call → (o : Option (Option Grant)) → IfSome o (GrantOrGap call.answer.reply)
+              → IfSome (option_map (with_grant with_parity taken e.bay) o) (λ t. Caused host FinishStands (call ∷ calls) (f (Through t)))
+          given call is None g = tt
+          given call is (Some o) g =
+              on call o (with-missing with_parity taken (parity_bay script.n row) calls call (bay-asked is) o g m) (parity-told row id how mask want calls call is o g)
+
+  pub shares-take : (least : Option Number) (id : Number) (row : RowNo) → BehindRightly least (Share row id true) → (bays : List BayNo) → AllByRecursion (Takes least) (shares id row bays)
+  shares-take least id row b [] = tt
+  shares-take least id row b (bay ∷ bays) = (record { take = share-takes row id true; rightly = b }, shares-take least id row b bays)
+
+  pub claims-take : (least : Option Number) (id : Number) (row : RowNo) (how : How) (want : Bool) → BehindRightly least (Claim row id how 0 want) → (bays : List BayNo)
+      → AllByRecursion (Takes least) (claims id row how want bays)
+  claims-take least id row how want b [] = tt
+  claims-take least id row how want b (bay ∷ bays) = (record { take = claim-takes row id how 0 want; rightly = b }, claims-take least id row how want b bays)

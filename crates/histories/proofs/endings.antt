@@ -1,0 +1,2 @@
+-- Endings: a job that has ended has what it is due.
+pub mod EndingLemmas

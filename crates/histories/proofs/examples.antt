@@ -1,0 +1,6 @@
+-- Small scripts and what their plays show, worked out.
+pub mod Heads
+pub mod LockRows
+pub mod LossRows
+pub mod OrderRows
+pub mod StopRows

@@ -1,0 +1,5 @@
+-- One bay is missing at most.
+pub mod MissingBays
+pub mod MissingHosts
+pub mod MissingSlots
+pub mod MissingTrees

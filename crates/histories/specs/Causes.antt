@@ -1,0 +1,109 @@
+-- What stands behind the cause in a result.
+use Rattle.std.specs.Prelude.{◌≡◌, ◌≢◌, ◌⊎◌, ℕ, ◌≤◌, not, ◌||◌, Bool, false, List, Some, is_some, IsNone}
+use Rattle.raid_base.specs.declared.numbers.HostNo.{HostNo}
+use Rattle.raid_base.specs.declared.numbers.BayNo.{BayNo}
+use Rattle.raid_base.specs.declared.numbers.RowNo.{RowNo}
+use Rattle.raid_base.specs.declared.numbers.Number.{Number}
+use Rattle.raid_base.specs.declared.messages.Mode.TheVariants.{Lock, Order}
+use Rattle.raid_base.specs.declared.messages.Request.TheVariants.{Confirm, Put, Release}
+use Rattle.raid_base.specs.declared.messages.Reply.{Reply}
+use Rattle.raid_base.specs.declared.messages.Reply.TheVariants as replies
+use Rattle.raid_base.specs.declared.jobs.Task.{Task}
+use Rattle.raid_base.specs.declared.jobs.Task.TheVariants as tasks
+use Rattle.raid_base.specs.declared.jobs.Cause.{Cause}
+use Rattle.raid_base.specs.declared.jobs.Cause.TheVariants as causes
+use Rattle.raid_base.specs.declared.jobs.JobEnd.{JobEnd}
+use Rattle.raid_base.specs.declared.jobs.JobEnd.TheVariants as ends
+use Rattle.raid_base.specs.declared.cells.Cell.{Cell}
+use Rattle.raid_base.specs.declared.messages.Call.{Call}
+use Rattle.raid_base.specs.Numbers.{next_number}
+use Rattle.raid_base.specs.declared.messages.Grant.{Grant}
+use Rattle.raid_base.specs.Replies.{grant_of}
+use Rattle.stripe_layout.specs.Placement.{parity_bay}
+use Rattle.script_text.specs.Script.{Script}
+use Rattle.histories.specs.Progress.{Ending}
+use Rattle.histories.specs.Calls.{Happened, HappenedAfter, id_of, IsClaim, Answers}
+use Rattle.histories.specs.Torn.{IsMissing}
+
+-- a read or a write under stamps was told a floor that is not below its id
+abbrev pub IsFloorFrom : Number → Call → Type 0
+IsFloorFrom floor call = Answers (replies.Missing floor) call × (id : Number) × (id_of call.ask.what ≡ Some id) × (id.0 ≤ floor.0)
+
+abbrev pub IsReadOrWrite : Task → Type 0
+IsReadOrWrite (tasks.Read object first count) = Unit {0}
+IsReadOrWrite (tasks.Write object first from count) = Unit {0}
+IsReadOrWrite _ = ⊥
+
+abbrev pub IsMissingAt : BayNo → Call → Type 0
+IsMissingAt bay call = (call.bay ≡ bay) × IsMissing call
+
+-- a slot of a rebuild is gone where it is missing, or has no cell on another bay than the target
+abbrev pub IsBare : BayNo → Call → Type 0
+IsBare bay call = (call.bay ≡ bay) × (grant : Grant) × (grant_of call.answer.reply ≡ Some grant) × IsNone grant.cell
+
+abbrev pub IsGone : Script → HostNo → BayNo → Task → List Call → Type 0
+IsGone script host bay (tasks.Rebuild target) calls = Happened (IsMissingAt bay) calls ⊎ ((target ≢ bay) × Happened (IsBare bay) calls)
+IsGone script host bay (tasks.Recover row) calls = (host.0 ≢ 0) × (bay ≡ parity_bay script.n row) × Happened (IsMissingAt bay) calls
+IsGone script host bay _ calls = ⊥
+
+-- a confirm of the row's parity with this reply
+abbrev pub IsConfirm : ℕ → RowNo → Call → Type 0
+IsConfirm n row call = (call.bay ≡ parity_bay n row) × (id : Number) × (want : Bool) × (call.ask.what ≡ Confirm row id want)
+
+-- it is not held with a cell where one is wanted
+abbrev pub is_held_well : Bool → Reply → Bool
+is_held_well want (replies.Held cell) = not want || is_some cell
+is_held_well want _ = false
+
+abbrev pub IsHeldBadly : ℕ → RowNo → Call → Type 0
+IsHeldBadly n row call =
+    (call.bay ≡ parity_bay n row) × (id : Number) × (want : Bool) × (call.ask.what ≡ Confirm row id want) × (is_held_well want call.answer.reply ≡ false)
+
+abbrev pub IsFound : ℕ → RowNo → Call → Type 0
+IsFound n row call = IsConfirm n row call × ¬ (IsMissing call)
+
+abbrev pub IsGranted : ℕ → RowNo → Call → Type 0
+IsGranted n row call = IsClaim (parity_bay n row) row call × (grant : Grant) × (grant_of call.answer.reply ≡ Some grant)
+
+abbrev pub IsLacking : ℕ → RowNo → Call → Type 0
+IsLacking n row call = IsClaim (parity_bay n row) row call × IsMissing call
+
+-- a parity that was granted is not held, or one that was missing is not
+abbrev pub IsChanged : ℕ → RowNo → List Call → Type 0
+IsChanged n row calls = HappenedAfter (IsHeldBadly n row) (IsGranted n row) calls ⊎ HappenedAfter (IsFound n row) (IsLacking n row) calls
+
+-- a request of this row that found no note
+abbrev pub IsUnnoted : Call → Type 0
+IsUnnoted call = (life : ℕ) × (call.answer.reply ≡ replies.NoNote life)
+
+abbrev pub IsReleaseIn : RowNo → Call → Type 0
+IsReleaseIn row call = (id : Number) × (n : Number) × (call.ask.what ≡ Release row id (Some n)) × IsUnnoted call
+
+abbrev pub IsPutIn : RowNo → Call → Type 0
+IsPutIn row call = (id : Number) × (n : Number) × (cell : Cell) × (call.ask.what ≡ Put row id n cell) × IsUnnoted call
+
+-- the cause stands in the calls of the job's last attempt
+abbrev pub IsCauseIn : Script → HostNo → Ending → Cause → Type 0
+IsCauseIn script host e (causes.Busy holder) = Happened (Answers (replies.Busy holder)) e.calls
+IsCauseIn script host e (causes.Late above) = Happened (Answers (replies.Late above)) e.calls
+IsCauseIn script host e (causes.Young note) = Happened (Answers (replies.Young note)) e.calls
+IsCauseIn script host e (causes.Behind floor) = (script.mode ≡ Order) × IsReadOrWrite e.job.task × Happened (IsFloorFrom floor) e.calls
+IsCauseIn script host e (causes.Fault bay) = Happened (λ call. (call.bay ≡ bay) × Answers replies.Fault call) e.calls
+IsCauseIn script host e (causes.Broken first second) = HappenedAfter (IsMissingAt second) (IsMissingAt first) e.calls × (first ≢ second)
+IsCauseIn script host e (causes.Gone bay) = IsGone script host bay e.job.task e.calls
+IsCauseIn script host e (causes.Changed row) = IsChanged script.n row e.calls
+IsCauseIn script host e (causes.Released row) = (script.mode ≡ Lock) × Happened (IsReleaseIn row) e.calls
+IsCauseIn script host e (causes.Seized row) = Happened (IsPutIn row) e.calls
+IsCauseIn script host e (causes.Spent seen) = IsNone (next_number host seen)
+IsCauseIn script host e causes.Quit = e.job.quit ≡ Some e.asked
+
+-- a job is given up after all its tries, unless its host stops or numbers are spent
+abbrev pub AreTries : ℕ → ℕ → Cause → Type 0
+AreTries all tries causes.Quit = tries ≤ all
+AreTries all tries (causes.Spent seen) = tries ≤ all
+AreTries all tries _ = tries ≡ all
+
+abbrev pub MeetsCause : Script → HostNo → Ending → JobEnd → Type 0
+MeetsCause script host e (ends.Part n made cause) = IsCauseIn script host e cause
+MeetsCause script host e (ends.Gave tries cause) = IsCauseIn script host e cause × (tries ≡ e.tries) × AreTries script.tries tries cause
+MeetsCause script host e _ = Unit {0}

@@ -1,6 +1,0 @@
-use Rattle.host_engine.proofs.EndingLemmas.{endings_are_filled}
-use Rattle.host_engine.proofs.laws.endings_are_filled.Goals as goal
-
--- src/laws.rt:28:1
-pub returns : goal.returns
-returns c = endings_are_filled

@@ -1,6 +1,0 @@
-use Rattle.host_engine.proofs.SmallHistory.{numbers_stay_small}
-use Rattle.host_engine.proofs.laws.numbers_stay_small.Goals as goal
-
--- src/laws.rt:41:1
-pub returns : goal.returns
-returns c = numbers_stay_small

@@ -1,0 +1,10 @@
+pub mod commits
+pub mod covered
+pub mod effects
+pub mod hands
+pub mod holders
+pub mod notes
+pub mod numbers
+pub mod owners
+pub mod reads
+pub mod torn

@@ -1,0 +1,3 @@
+-- Who gives a unit its content.
+pub mod CommitTrees
+pub mod OwnedCommits

@@ -1,0 +1,4 @@
+-- Puts are covered.
+pub mod CoveredPuts
+pub mod CoveredPutsHands
+pub mod CoveredPutsSlots

@@ -1,0 +1,3 @@
+-- Where notes stand, and from where they came.
+pub mod BlankNotes
+pub mod NoteUnits

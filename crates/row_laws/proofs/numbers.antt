@@ -1,0 +1,11 @@
+-- Numbers rise.
+pub mod NumberTrees
+pub mod PutNumbers
+pub mod Risen
+pub mod RisenDraws
+pub mod RisenHands
+pub mod RisenHosts
+pub mod RisenPuts
+pub mod RisenSlots
+pub mod RisenTrees
+pub mod RisingClaims

@@ -1,0 +1,5 @@
+-- What reads find.
+pub mod ReadFloors
+pub mod ReadShares
+pub mod ReadSlots
+pub mod ReadingTrees

@@ -1,0 +1,57 @@
+-- Laws of rows: commits, covered puts, the order of numbers and lost blocks.
+use Rattle.std.specs.Prelude.{◌≡◌, ◌⊎◌, ℕ, ◌+◌, ◌<◌, true, if◌then◌else◌, List, [], ◌∷◌, ◌++◌, Option, Some, None, IsNone}
+use Rattle.raid_base.specs.declared.numbers.RowNo.{RowNo}
+use Rattle.raid_base.specs.declared.numbers.Number.{Number}
+use Rattle.raid_base.specs.declared.messages.Note.{Note}
+use Rattle.raid_base.specs.declared.messages.Call.{Call}
+use Rattle.raid_base.specs.Cells.{has_unit}
+use Rattle.raid_base.specs.Replies.{is_done}
+use Rattle.raid_base.specs.Steps.{Commit, commits_next}
+use Rattle.stripe_layout.specs.Placement.{parity_bay, bay_of}
+use Rattle.script_text.specs.Script.{Script}
+use Rattle.script_text.specs.Ranges.{IsScript}
+use Rattle.histories.specs.Progress.{Work, Trying}
+use Rattle.histories.specs.History.{IsHistory, progress_at}
+use Rattle.histories.specs.RowStates.{slot_at, cell_at}
+use Rattle.histories.specs.Calls.{Happened, row_of, write_of, read_of, IsPut, IsDone}
+use Rattle.histories.specs.Torn.{IsWriteClaim}
+use Rattle.histories.specs.Results.{NamesLostRightly}
+use Rattle.histories.specs.Accesses.{writes, reads, AllBelow}
+
+-- Number order: a write's number is above those of all earlier reads and writes of its slot, and a read's above those of all earlier writes.
+abbrev pub NumbersRise : Type 0
+NumbersRise = (script : Script) (later earlier : List Call) (call : Call) (row : RowNo) (n : Number) →
+    IsScript script → IsHistory script (later ++ call ∷ earlier) → row_of call.ask.what ≡ Some row →
+    (write_of call.ask.what call.answer.reply ≡ Some n → AllBelow n (writes call.bay row earlier) × AllBelow n (reads script call.bay row earlier))
+    × (read_of script.mode call.ask.what call.answer.reply ≡ Some n → AllBelow n (writes call.bay row earlier))
+
+-- Covered puts: where a write's data put was done, and no parity put of its row since, the parity is missing, or its note came
+-- from that write and has the unit.
+abbrev pub IsOrigin : Number → ℕ → Option Note → Type 0
+IsOrigin id unit None = ⊥
+IsOrigin id unit (Some note) = (note.origin ≡ id) × (has_unit note.mask unit ≡ true)
+
+abbrev pub IsWrite : ℕ → RowNo → Number → List Call → Type 0
+IsWrite n row id calls = (mask : ℕ) × Happened (IsWriteClaim n row id mask) calls
+
+abbrev pub IsPutSince : ℕ → RowNo → List Call → Type 0
+IsPutSince n row later = Happened (λ call. (id : Number) × IsPut (parity_bay n row) row id call × IsDone call) later
+
+abbrev pub PutsAreCovered : Type 0
+PutsAreCovered = (script : Script) (later earlier : List Call) (call : Call) (row : RowNo) (unit : ℕ) (id : Number) →
+    IsScript script → IsHistory script (later ++ call ∷ earlier) → unit + 1 < script.n → IsWrite script.n row id earlier →
+    IsPut (bay_of script.n row unit) row id call → IsDone call →
+    ¬ (IsPutSince script.n row later) →
+    IsNone (cell_at script (later ++ call ∷ earlier) row (parity_bay script.n row))
+    ⊎ IsOrigin id unit (slot_at script (later ++ call ∷ earlier) (parity_bay script.n row) row).note
+
+-- Commits: what a Done to the next request of a host commits
+abbrev pub commits_in : Work → List Commit
+commits_in (Trying steps) = commits_next steps
+commits_in _ = []
+
+abbrev pub commits_of : Script → List Call → Call → List Commit
+commits_of script earlier call = if is_done call.answer.reply then commits_in (progress_at script call.ask.host earlier).work else []
+
+abbrev pub LostBlocksAreTorn : Type 0
+LostBlocksAreTorn = (script : Script) (history : List Call) → IsScript script → IsHistory script history → NamesLostRightly script history

@@ -1,0 +1,5 @@
+pub mod Commits
+pub mod Effects
+pub mod Hands
+pub mod Holding
+pub mod Laws

@@ -1,5 +1,0 @@
-use Rattle.schedule_play.proofs.ContentParity.{parity_is_kept}
-use Rattle.schedule_play.proofs.laws.parity_is_kept.Goals as goal
-
-pub returns : goal.returns
-returns c = parity_is_kept

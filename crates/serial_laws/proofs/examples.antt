@@ -1,0 +1,2 @@
+-- Small plays, and what they commit.
+pub mod CommitRows

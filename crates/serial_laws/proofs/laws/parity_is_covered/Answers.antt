@@ -1,0 +1,5 @@
+use Rattle.serial_laws.proofs.contents.ContentParity.{parity_is_covered}
+use Rattle.serial_laws.proofs.laws.parity_is_covered.Goals as goal
+
+pub returns : goal.returns
+returns c = parity_is_covered

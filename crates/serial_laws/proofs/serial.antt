@@ -1,0 +1,4 @@
+-- Every play is serial.
+pub mod Latest
+pub mod Placed
+pub mod Serial
