@@ -2,15 +2,7 @@
 #![tactic(auto)]
 
 pub mod input;
-#[cfg(test)]
-mod plays;
-#[cfg(test)]
-mod refusals;
 pub mod run;
-#[cfg(test)]
-mod serial_plays;
-#[cfg(test)]
-mod tests;
 pub mod words;
 
 pub use input::{InputFault, read_all};

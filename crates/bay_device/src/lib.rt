@@ -6,7 +6,5 @@
 
 pub mod bay;
 mod serve;
-#[cfg(test)]
-mod tests;
 
 pub use bay::{Bay, BayFault};

@@ -8,8 +8,3 @@ pub mod lookup;
 pub mod room;
 
 pub use host::Host;
-
-#[cfg(test)]
-mod host_tests;
-#[cfg(test)]
-mod tests;

@@ -9,6 +9,3 @@ pub mod read_try;
 pub mod stages;
 
 pub use read_try::ReadTry;
-
-#[cfg(test)]
-mod tests;

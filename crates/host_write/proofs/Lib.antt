@@ -5,4 +5,3 @@ pub mod PuttingLemmas
 pub mod DrawnLemmas
 pub mod AnsweredLemmas
 pub mod TryLemmas
-pub mod TestParts

@@ -14,6 +14,3 @@ pub mod troubles;
 pub mod write_try;
 
 pub use write_try::WriteTry;
-
-#[cfg(test)]
-mod tests;

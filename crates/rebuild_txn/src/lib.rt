@@ -10,6 +10,3 @@ pub mod slots;
 pub mod stages;
 
 pub use mend_try::MendTry;
-
-#[cfg(test)]
-mod tests;

@@ -12,6 +12,3 @@ pub mod stages;
 pub mod verdict;
 
 pub use recover_try::RecoverTry;
-
-#[cfg(test)]
-mod tests;

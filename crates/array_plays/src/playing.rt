@@ -1,0 +1,118 @@
+//! Calls on scripts over sixteen stores, and plays whose whole report is looked for.
+
+use crate::texts::{STAMPS, Spell, push_state, report_of, script_of};
+use array_cli::{Outcome, sim_call};
+use block_store::{FailingStore, Store};
+use raid_base::{MemorySink, MemorySource, Status};
+use std::alloc::Global;
+use std::process::Abort;
+use std::test::Fail;
+
+/// A script, and the report that is to come of it.
+///
+/// The script is its head, the lines of its hosts and its turns. The stores of these bays fail at these calls, each counted
+/// from 0. Behind the script's turns come those of the rounds. The blocks are those of object `a`.
+#[derive(Clone, Copy)]
+pub struct Play {
+    pub head: &'static [&'static str],
+    pub hosts: &'static [&'static str],
+    pub turns: &'static [Spell],
+    pub failing: &'static [(u32, u32)],
+    pub results: &'static [&'static str],
+    pub count: u32,
+    pub rounds: &'static [Spell],
+    pub blocks: &'static [&'static str],
+    pub rows: &'static [&'static str],
+}
+
+/// Nothing is done on five devices.
+pub const FIVE: Play = Play {
+    head: STAMPS,
+    hosts: &[],
+    turns: &[],
+    failing: &[],
+    results: &[],
+    count: 0,
+    rounds: &[],
+    blocks: &["00", "00", "00", "00"],
+    rows: &["closed"],
+};
+
+/// Sixteen stores, the first with so many blocks and each next one with one more.
+fn make_stores(
+    alloc: Global,
+    blocks: u32,
+    failing: &[(u32, u32)],
+) -> Result<Vec<FailingStore>, Fail> {
+    let mut stores = Vec::new(alloc);
+    for place in 0..16 {
+        let mut calls = Vec::new(alloc);
+        for (bay, call) in failing {
+            if *bay == place {
+                calls.push(*call)?;
+            }
+        }
+        stores.push(FailingStore::make(alloc, blocks.saturating_add(place), calls)?)?;
+    }
+    Ok(stores)
+}
+
+/// Whether all those stores have come back, in order.
+pub fn are_back(stores: &[FailingStore], blocks: u32) -> bool {
+    for (place, store) in stores.iter().enumerate() {
+        if u64::from(store.blocks()) != u64::from(blocks).saturating_add(place as u64) {
+            return false;
+        }
+    }
+    stores.len() == 16
+}
+
+/// A call on a script, and what it has printed.
+pub fn call(
+    alloc: Global,
+    script: &str,
+    blocks: u32,
+    failing: &[(u32, u32)],
+) -> Result<(Outcome<FailingStore>, String), Fail> {
+    let mut source = MemorySource::make(script.as_bytes().to_vec(alloc)?, Vec::new(alloc));
+    let mut sink = MemorySink::make(alloc, 1 << 17, Vec::new(alloc))?;
+    let stores = make_stores(alloc, blocks, failing)?;
+    let outcome = sim_call(alloc, &mut source, &mut sink, stores);
+    let printed = String::from_utf8_lossy(alloc, sink.written())?;
+    Ok((outcome, printed))
+}
+
+/// Plays a script of so many rows, and looks for the whole report.
+pub fn check_text(
+    rt: &impl Abort,
+    alloc: Global,
+    script: &str,
+    rows: usize,
+    failing: &[(u32, u32)],
+    report: &str,
+) -> Result<(), Fail> {
+    let blocks = u32::try_from(rows)?;
+    let (outcome, printed) = call(alloc, script, blocks, failing)?;
+    assert_eq!(rt; printed.as_str(), report, "{script}");
+    assert_eq!(rt; outcome.status, Status::Done);
+    assert!(rt; are_back(outcome.stores.as_slice(), blocks));
+    Ok(())
+}
+
+pub fn check(rt: &impl Abort, alloc: Global, plays: &[Play]) -> Result<(), Fail> {
+    for play in plays {
+        let script = script_of(alloc, play.head, play.hosts, play.turns)?;
+        let mut report = report_of(alloc, play.results, play.count, play.turns, play.rounds)?;
+        push_state(&mut report, play.blocks, play.rows)?;
+        let rows = play.rows.len();
+        check_text(
+            rt,
+            alloc,
+            script.as_str(),
+            rows,
+            play.failing,
+            report.as_str(),
+        )?;
+    }
+    Ok(())
+}

@@ -1,0 +1,261 @@
+//! Plays with a stop, a loss or a failing store at each place, beside a serial array.
+//!
+//! The results take effect on the array in the order of their numbers. Each read agrees with it when its turn comes, and each
+//! block that is seen at the end.
+
+use crate::playing::call;
+use crate::texts::{LOCKS, STAMPS, push_lines, push_turns};
+use block_store::{FailingStore, Store};
+use raid_base::{Content, JobEnd, JobResult, Number, RowNo, Shown, Status, Task};
+use raid_xor::xor_into;
+use report_text::{Report, read_report};
+use script_text::{Script, read_script};
+use serial_array::SerialArray;
+use std::alloc::Global;
+use std::process::Abort;
+use std::test::Fail;
+
+/// The number of a result that has one.
+fn number_of(end: &JobEnd) -> Option<Number> {
+    match end {
+        JobEnd::Read { number } => Some(*number),
+        JobEnd::Wrote { number } => Some(*number),
+        JobEnd::Part { number, .. } => Some(*number),
+        JobEnd::Recovered { number, .. } => Some(*number),
+        _ => None,
+    }
+}
+
+/// The numbers of all results that have one, each with the result's place, by rising number.
+fn in_order(alloc: Global, results: &[JobResult]) -> Result<Vec<(u64, usize)>, Fail> {
+    let mut order = Vec::new(alloc);
+    for (place, result) in results.iter().enumerate() {
+        if let Some(number) = number_of(&result.end) {
+            order.push((number.0, place))?;
+        }
+    }
+    order.sort()?;
+    Ok(order)
+}
+
+/// The task of a result.
+fn task_of(script: &Script, ended: &JobResult) -> Option<Task> {
+    for jobs in script.hosts() {
+        if jobs.host == ended.host {
+            let job = jobs.jobs.as_slice().get(ended.job as usize)?;
+            return Some(job.task);
+        }
+    }
+    None
+}
+
+/// Puts these blocks of a write. False where it is none.
+fn put(script: &Script, array: &mut SerialArray, task: Task, made: u128) -> bool {
+    let Task::Write {
+        object,
+        first,
+        from,
+        count,
+    } = task
+    else {
+        return false;
+    };
+    for at in 0..count.min(120) {
+        let place = from.saturating_add(u32::from(at)) as usize;
+        let block = first.saturating_add(u32::from(at));
+        if let Some(bytes) = script.blocks.as_slice().get(place) {
+            if (made >> at) & 1 == 1 {
+                array.set(&object, block, Content::Bytes(*bytes));
+            }
+        }
+    }
+    true
+}
+
+/// Loses the block of a unit.
+fn lose(script: &Script, report: &Report, array: &mut SerialArray, row: RowNo, unit: u8) {
+    for (name, block, _) in &report.blocks {
+        if script.objects.place(name, *block) == Some((row, unit)) {
+            array.set(name, *block, Content::Lost);
+        }
+    }
+}
+
+/// Whether a read has read what the array has.
+fn agrees(array: &SerialArray, task: Task, contents: &[Content]) -> bool {
+    let Task::Read { object, first, .. } = task else {
+        return false;
+    };
+    for (block, content) in (first..u32::MAX).zip(contents) {
+        if array.get(&object, block) != Some(*content) {
+            return false;
+        }
+    }
+    true
+}
+
+/// The result at this place takes effect. False where it does not agree.
+fn take_effect(script: &Script, report: &Report, array: &mut SerialArray, place: usize) -> bool {
+    let Some(result) = report.results.as_slice().get(place) else {
+        return false;
+    };
+    let Some(contents) = report.contents.as_slice().get(place) else {
+        return false;
+    };
+    let Some(task) = task_of(script, result) else {
+        return false;
+    };
+    match result.end {
+        JobEnd::Read { .. } => agrees(array, task, contents.as_slice()),
+        JobEnd::Wrote { .. } => put(script, array, task, u128::MAX),
+        JobEnd::Part { made, .. } => put(script, array, task, made),
+        JobEnd::Recovered { lost, .. } => match (task, lost) {
+            (Task::Recover { row }, Some(unit)) => {
+                lose(script, report, array, row, unit);
+                true
+            }
+            (Task::Recover { .. }, None) => true,
+            _ => false,
+        },
+        _ => false,
+    }
+}
+
+/// Whether all numbers differ, and each host's rise with its jobs.
+fn rise(results: &[JobResult], order: &[(u64, usize)]) -> bool {
+    let mut before = 0;
+    let mut jobs = [0; 16];
+    for (number, place) in order {
+        let Some(result) = results.get(*place) else {
+            return false;
+        };
+        let Some(next) = jobs.get_mut(usize::from(result.host.0)) else {
+            return false;
+        };
+        if *number <= before || result.job < *next {
+            return false;
+        }
+        before = *number;
+        *next = result.job;
+    }
+    true
+}
+
+/// The exclusive-or of a row's blocks of all stores. No two calls after one another fail.
+fn sum_of(stores: &mut [FailingStore], row: RowNo) -> Result<[u8; 64], Fail> {
+    let mut sum = [0; 64];
+    for store in stores.iter_mut() {
+        if u32::from(row.0) < store.blocks() {
+            let bytes = match store.read(row) {
+                Ok(bytes) => bytes,
+                Err(_) => store.read(row)?,
+            };
+            xor_into(&mut sum, &bytes);
+        }
+    }
+    Ok(sum)
+}
+
+/// Whether a device is gone at the end, or not rebuilt.
+fn is_gone(results: &[JobResult]) -> bool {
+    let mut gone = false;
+    for result in results {
+        match result.end {
+            JobEnd::Lost => gone = true,
+            JobEnd::Rebuilt => gone = false,
+            _ => {}
+        }
+    }
+    gone
+}
+
+/// Plays a script, and looks for a serial order of its results and for the sums of closed rows. A store that fails at the end may
+/// leave no report.
+fn check(rt: &impl Abort, alloc: Global, text: &str, failing: &[(u32, u32)]) -> Result<(), Fail> {
+    let (mut outcome, printed) = call(alloc, text, 2, failing)?;
+    if outcome.status != Status::Done {
+        assert!(rt; !failing.is_empty());
+        return Ok(());
+    }
+    if text.len() >= 1 << 20 || printed.len() >= 1 << 20 {
+        return Err("too long")?;
+    }
+    let script = read_script(alloc, text.as_bytes())?;
+    let report = read_report(alloc, printed.as_bytes())?;
+    let mut array = SerialArray::make(alloc, &script)?;
+    let order = in_order(alloc, report.results.as_slice())?;
+    assert!(rt;
+        rise(report.results.as_slice(), order.as_slice()),
+        "{text}{printed}"
+    );
+    for (_, place) in &order {
+        assert!(rt;
+            take_effect(&script, &report, &mut array, *place),
+            "{text}{printed}"
+        );
+    }
+    for (name, block, shown) in &report.blocks {
+        if let Shown::Seen(content) = shown {
+            assert_eq!(rt; array.get(name, *block), Some(*content), "{text}{printed}");
+        }
+    }
+    if is_gone(report.results.as_slice()) {
+        return Ok(());
+    }
+    for (row, closed) in (0..u16::MAX).zip(&report.rows) {
+        if *closed {
+            let sum = sum_of(outcome.stores.as_mut_slice(), RowNo(row))?;
+            assert_eq!(rt; sum, [0; 64], "{text}{printed}");
+        }
+    }
+    Ok(())
+}
+
+/// A script in which a write stops after so many requests, and a device is lost after so many requests of its host.
+fn stopped(alloc: Global, head: &[&str], quit: &str, before: u64) -> Result<String, Fail> {
+    let mut text = String::new(alloc);
+    push_lines(&mut text, head)?;
+    push_lines(
+        &mut text,
+        &["host 0", "lose 2", "fit 2", "rebuild 2", "host 1"],
+    )?;
+    writeln!(text, "{quit}write a 0 41 42")?;
+    push_lines(
+        &mut text,
+        &["read a 0 4", "host 2", "recover 0", "read a 0 4"],
+    )?;
+    push_lines(&mut text, &["host 3", "recover 0"])?;
+    let after = before.saturating_add(1);
+    push_turns(&mut text, &[(1, 1, before), (0, after, after)])?;
+    push_lines(&mut text, &["end"])?;
+    Ok(text)
+}
+
+#[test]
+fn a_stop_and_a_loss_at_each_place_leave_a_serial_order(rt: HostRuntime) -> Result<(), Fail> {
+    for head in [STAMPS, LOCKS] {
+        for quit in 1..13 {
+            let quit = format!(in rt.alloc(); "quit {quit} ")?;
+            for before in 0..13 {
+                let script = stopped(rt.alloc(), head, quit.as_str(), before)?;
+                check(&rt, rt.alloc(), script.as_str(), &[])?;
+            }
+        }
+    }
+    Ok(())
+}
+
+#[test]
+fn a_failing_store_and_a_loss_leave_a_serial_order(rt: HostRuntime) -> Result<(), Fail> {
+    for head in [STAMPS, LOCKS] {
+        for before in [0, 3, 6, 7, 9] {
+            let script = stopped(rt.alloc(), head, "", before)?;
+            for bay in 0..5 {
+                for fails in 1..10 {
+                    check(&rt, rt.alloc(), script.as_str(), &[(bay, fails)])?;
+                }
+            }
+        }
+    }
+    Ok(())
+}

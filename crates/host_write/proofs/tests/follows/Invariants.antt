@@ -1,6 +1,0 @@
-use Rattle.std.proofs.Common.{◌≡◌}
-use Rattle.host_write.specs.Tries.{block_count}
-use Rattle.host_write.proofs.tests.follows.Given as goal
-
-abbrev pub invariant-loop-step : goal.invariant-loop-step
-invariant-loop-step g l = block_count l.write ≡ block_count l.initial.write

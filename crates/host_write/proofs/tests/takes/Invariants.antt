@@ -1,6 +1,0 @@
-use Rattle.std.proofs.Common.{◌≡◌}
-use Rattle.host_write.specs.Tries.{block_count}
-use Rattle.host_write.proofs.tests.takes.Given as goal
-
-abbrev pub invariant-loop-reply : goal.invariant-loop-reply
-invariant-loop-reply l = block_count l.write ≡ block_count l.initial.write
