@@ -22,7 +22,7 @@ use Rattle.raid_base.specs.Replies.{grant_of, is_held, is_done}
 use Rattle.raid_base.specs.Steps.{Steps, ◌>>=◌, Commit, Walk, Through, Stopped, run}
 use Rattle.stripe_layout.specs.Placement.{bay, parity_bay, bay_of, bays_of, unit_at, units, parity_first}
 use Rattle.stripe_layout.proofs.LayoutLemmas.{unit_at_parity, unit_apart, unit_back, unit_distinct, covered}
-use Rattle.row_plans.specs.Plans.{parity_of}
+use Rattle.raid_xor.specs.Parities.{parity_of}
 use Rattle.degraded_plans.specs.Missing.{missing_of}
 use Rattle.degraded_plans.specs.Rows.{AreDataCells, IsSound}
 use Rattle.degraded_plans.specs.Laws.{cell_of, others}

@@ -12,7 +12,7 @@ use Rattle.stripe_layout.specs.Placement.{parity_bay, bay_of, bays_of, units}
 use Rattle.stripe_layout.proofs.LayoutLemmas.{unit_at_parity, unit_back}
 use Rattle.raid_xor.specs.Laws.{AreBlocks}
 use Rattle.raid_xor.proofs.XorLemmas.{AreBlocks-append}
-use Rattle.row_plans.proofs.Parities.{same_cell}
+use Rattle.raid_xor.proofs.Parities.{same_cell}
 use Rattle.degraded_plans.specs.Rows.{IsSound}
 use Rattle.degraded_plans.specs.Laws.{cell_of, others}
 use Rattle.degraded_plans.proofs.SoundRows.{parity_sum, AreBlocks-front, AreBlocks-back}

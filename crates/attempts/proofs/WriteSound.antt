@@ -32,7 +32,7 @@ use Rattle.stripe_layout.specs.Placement.{bay, parity_bay, bay_of, bays_of, unit
 use Rattle.stripe_layout.proofs.LayoutLemmas.{unit_back, unit_distinct}
 use Rattle.virtual_objects.specs.Table.{numbers}
 use Rattle.virtual_objects.specs.RowParts.{part_rows, IsPart, AreInTurn}
-use Rattle.row_plans.specs.Plans.{parity_of}
+use Rattle.raid_xor.specs.Parities.{parity_of}
 use Rattle.raid_xor.specs.Laws.{AreBlocks}
 use Rattle.degraded_plans.specs.Rows.{IsSound}
 use Rattle.degraded_plans.specs.Laws.{changed, cell_of}

@@ -13,8 +13,9 @@ use Rattle.raid_xor.proofs.XorLemmas.{length-xor_of}
 use Rattle.stripe_layout.specs.Placement.{units, units_in, units_out}
 use Rattle.virtual_objects.specs.Objects.{rank}
 use Rattle.virtual_objects.specs.RowParts.{IsPart}
-use Rattle.row_plans.specs.Plans.{fold_small, parity_of, xor_of}
-use Rattle.row_plans.proofs.Parities.{order_free}
+use Rattle.raid_xor.specs.Sums.{xor_of}
+use Rattle.raid_xor.specs.Parities.{fold_small, parity_of}
+use Rattle.raid_xor.proofs.Parities.{order_free}
 use Rattle.degraded_plans.specs.Rows.{IsSound}
 use Rattle.degraded_plans.specs.Laws.{Change, changed, folded_small, folded_from, AreChanges, AreApart, Leaves, cell_of}
 use Rattle.degraded_plans.proofs.SoundRows.{parity_blocks}

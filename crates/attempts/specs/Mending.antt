@@ -16,7 +16,7 @@ use Rattle.raid_base.specs.declared.messages.Grant.{Grant}
 use Rattle.raid_base.specs.Replies.{grant_of, is_held, is_done, is_fault}
 use Rattle.raid_base.specs.Steps.{Steps, ◌>>=◌, drawn, Walk, Through, Stopped, Phase, run}
 use Rattle.stripe_layout.specs.Placement.{parity_bay, unit_at, row_bays, parity_first}
-use Rattle.row_plans.specs.Plans.{parity_of}
+use Rattle.raid_xor.specs.Parities.{parity_of}
 use Rattle.degraded_plans.specs.Missing.{missing_of}
 use Rattle.attempts.specs.declared.Repair.{Repair}
 use Rattle.attempts.specs.declared.Hold.{Hold}

@@ -18,7 +18,7 @@ use Rattle.raid_base.specs.declared.messages.Grant.{Grant}
 use Rattle.raid_base.specs.Replies.{is_held, is_missing}
 use Rattle.raid_base.specs.Steps.{Steps, ◌>>=◌, drawn, Commit, Walk, Through, Stopped, Phase, run}
 use Rattle.stripe_layout.specs.Placement.{parity_bay, bays_of, units}
-use Rattle.row_plans.specs.Plans.{parity_of}
+use Rattle.raid_xor.specs.Parities.{parity_of}
 use Rattle.attempts.specs.declared.Rescue.{Rescue}
 use Rattle.attempts.specs.Taking.{Finish, refused_by_quit, harmless, Row, no_rows, Taken, begun, with_parity, with_wanted, refusal, taking, why, claim, claims, confirm}
 use Rattle.attempts.specs.Releases.{releases, end_as, released_steps, refused_steps, granted_of, parity_granted}

@@ -24,7 +24,7 @@ use Rattle.raid_base.specs.Steps.{Steps, Asks, Draws, Ends, Commit}
 use Rattle.raid_xor.specs.Laws.{AreBlocks}
 use Rattle.stripe_layout.specs.Placement.{parity_bay, unit_at, units_in}
 use Rattle.virtual_objects.specs.RowParts.{AreRowParts}
-use Rattle.row_plans.specs.Plans.{parity_of}
+use Rattle.raid_xor.specs.Parities.{parity_of}
 use Rattle.degraded_plans.specs.Rows.{AreDataCells, IsSound}
 use Rattle.degraded_plans.specs.Laws.{Change, changed, cell_of}
 use Rattle.attempts.specs.declared.Repair.{Repair}

@@ -6,7 +6,7 @@ ghost use Rattle.attempts.specs.Releases.{granted_of, is_among, ascending};
 
 use arrayvec::ArrayVec;
 use raid_base::{BayNo, Grant};
-use row_plans::has_unit;
+use raid_xor::has_unit;
 
 /// Units, ascending.
 pub type Units = ArrayVec<u8, 16>;

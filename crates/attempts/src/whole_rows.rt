@@ -3,7 +3,7 @@ ghost use Rattle.std.specs.Prelude.{◌≡◌, ◌-◌, ◌<◌, ◌≤◌, ◌+
 ghost use Rattle.arrayvec.specs.ArrayVec.{array_vec_len};
 ghost use Rattle.stripe_layout.specs.Placement.{units, bays_of, row_bays, parity_first};
 ghost use Rattle.raid_base.specs.Replies.{is_fault};
-ghost use Rattle.row_plans.specs.Plans.{parity_of};
+ghost use Rattle.raid_xor.specs.Parities.{parity_of};
 ghost use Rattle.attempts.specs.Mending.{put_cause};
 
 use crate::holds::bays_of;

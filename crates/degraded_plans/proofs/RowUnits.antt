@@ -8,8 +8,8 @@ use Rattle.raid_base.specs.Cells.{zero_cell, plain_cell, has_unit}
 use Rattle.raid_xor.specs.Sums.{xor_of, sum_of}
 use Rattle.raid_xor.specs.Laws.{AreBlocks}
 use Rattle.raid_xor.proofs.XorLemmas.{length-sum_of, sum_of-cons}
-use Rattle.row_plans.specs.Plans.{fold_small, parity_of}
-use Rattle.row_plans.proofs.Parities.{bytes-parity_of, order_free, split, AreBlocks-split}
+use Rattle.raid_xor.specs.Parities.{fold_small, parity_of}
+use Rattle.raid_xor.proofs.Parities.{bytes-parity_of, order_free, split, AreBlocks-split}
 use Rattle.degraded_plans.specs.Missing.{missing_of}
 use Rattle.degraded_plans.specs.Rows.{AreDataCells, IsSound}
 use Rattle.degraded_plans.specs.Laws.{Change, folded_small, folded_from, Leaves, AreApart, cell_of, IsByUnits}

@@ -11,8 +11,8 @@ use Rattle.raid_base.specs.Cells.{zeros, plain_cell, has_unit, with_unit, withou
 use Rattle.raid_xor.specs.Sums.{xor_of, sum_of}
 use Rattle.raid_xor.specs.Laws.{AreBlocks}
 use Rattle.raid_xor.proofs.XorLemmas.{xor_of-comm, xor_of-assoc, zero_last, zero_first, itself, cancel, swap, same_from_zero, sum_of-cons, sum_of-append, length-sum_of, length-xor_of, AreBlocks-append}
-use Rattle.row_plans.specs.Plans.{fold_small, parity_of}
-use Rattle.row_plans.proofs.Parities.{same_cell, bytes-parity_of, lost-parity_of, marked, marks_of}
+use Rattle.raid_xor.specs.Parities.{fold_small, parity_of}
+use Rattle.raid_xor.proofs.Parities.{same_cell, bytes-parity_of, lost-parity_of, marked, marks_of}
 use Rattle.degraded_plans.specs.Missing.{missing_of}
 use Rattle.degraded_plans.specs.Rows.{lost_from, IsDataCell, AreDataCells, IsSound}
 use Rattle.degraded_plans.proofs.Marks.{mark, mark_by, high, high_at, lost_all, lost_below, with_bit, has_none, has_one, without_none, without_one, with_none}

@@ -6,7 +6,7 @@ use Rattle.raid_base.specs.Cells.{zero_cell, plain_cell}
 use Rattle.raid_xor.specs.Sums.{xor_of}
 use Rattle.raid_xor.specs.Laws.{AreBlocks}
 use Rattle.raid_xor.proofs.XorLemmas.{length-xor_of}
-use Rattle.row_plans.specs.Plans.{fold_small, parity_of}
+use Rattle.raid_xor.specs.Parities.{fold_small, parity_of}
 use Rattle.degraded_plans.specs.Missing.{missing_of}
 use Rattle.degraded_plans.specs.Rows.{IsSound}
 use Rattle.degraded_plans.specs.Laws.{Change, changed, folded_small, AreChanges, Leaves, others, IsMade}

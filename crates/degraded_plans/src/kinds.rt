@@ -5,7 +5,7 @@ ghost use Rattle.std.specs.Option.{ForSome};
 ghost use Rattle.degraded_plans.specs.Kinds.{kind};
 
 use raid_base::{BayNo, RowNo};
-use row_plans::has_unit;
+use raid_xor::has_unit;
 use stripe_layout::unit_at;
 
 /// What a write finds missing of a row.

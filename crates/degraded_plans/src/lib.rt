@@ -12,8 +12,7 @@ pub use raid_base::Cell;
 pub mod kinds;
 pub mod laws;
 
-use raid_xor::xor_into;
-use row_plans::has_unit;
+use raid_xor::{has_unit, xor_into};
 
 /// The sum of the parity and some units' cells.
 fn sum_with(parity: &Cell, others: &[Cell]) -> [u8; 64]

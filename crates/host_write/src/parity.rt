@@ -3,7 +3,8 @@ ghost use Rattle.std.specs.Prelude.{◌≡◌, ℕ, List, [], ◌∷◌, ◌++�
 ghost use Rattle.arrayvec.specs.ArrayVec.{array_vec_len};
 ghost use Rattle.raid_base.specs.Cells.{plain_cell};
 ghost use Rattle.stripe_layout.specs.Placement.{parity_bay, units_in};
-ghost use Rattle.row_plans.specs.Plans.{choose, parity_of};
+ghost use Rattle.raid_xor.specs.Parities.{parity_of};
+ghost use Rattle.row_plans.specs.Plans.{choose};
 ghost use Rattle.attempts.specs.Accesses.{access_of};
 ghost use Rattle.attempts.specs.Reading.{cells_in, parity_in};
 ghost use Rattle.attempts.specs.Puts.{folded, goes_small, is_small_plan, new_parity, parity_put};

@@ -1,1 +1,3 @@
 pub mod XorLemmas
+pub mod UnitBits
+pub mod Parities

@@ -1,10 +1,13 @@
-//! The exclusive-or of blocks, by which a row's parity tells a missing unit.
+//! The exclusive-or of blocks, by which a row's parity tells a missing unit, and sets of a row's units.
 #![tactic(auto)]
 
 ghost use Rattle.std.specs.Prelude.{◌≡◌};
 ghost use Rattle.raid_xor.specs.Sums.{xor_of, sum_of};
 ghost use Rattle.raid_xor.specs.Laws.{Commutes, Associates, HasZero, IsSelfInverse, MakesBlocks, SumsAdd};
 
+pub mod masks;
+
+pub use masks::{has_unit, with_unit, without_unit};
 use raid_base::Cell;
 use std::simd::prelude::*;
 
@@ -63,5 +66,16 @@ mod tests {
         for (count, sum) in [(0usize, 0u8), (1, 1), (2, 3), (3, 7)] {
             assert_eq!(rt; sum_of(&cells[..count]), [sum; 64], "of {count} cells");
         }
+    }
+
+    #[test]
+    fn keeps_masks(rt: HostRuntime) {
+        assert_eq!(rt; has_unit(0b101, 2), true);
+        assert_eq!(rt; has_unit(0b101, 1), false);
+        assert_eq!(rt; with_unit(0b101, 1), 0b111);
+        assert_eq!(rt; with_unit(0b101, 2), 0b101);
+        assert_eq!(rt; without_unit(0b101, 2), 0b001);
+        assert_eq!(rt; without_unit(0b101, 15), 0b101);
+        assert_eq!(rt; with_unit(0, 15), 0x8000);
     }
 }

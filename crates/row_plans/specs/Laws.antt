@@ -4,7 +4,8 @@ use Rattle.raid_base.specs.declared.cells.Cell.{Cell}
 use Rattle.raid_base.specs.declared.jobs.Plan.{Plan}
 use Rattle.raid_base.specs.declared.jobs.Plan.TheVariants.{Full, Small, Reconstruct}
 use Rattle.raid_xor.specs.Laws.{AreBlocks}
-use Rattle.row_plans.specs.Plans.{choose, parity_of, fold_whole}
+use Rattle.raid_xor.specs.Parities.{parity_of, fold_whole}
+use Rattle.row_plans.specs.Plans.{choose}
 
 -- how many cells a plan reads for k of d units: the wanted ones and the parity, the others, or none
 abbrev pub reads : Plan → ℕ → ℕ → ℕ

@@ -14,7 +14,7 @@ use Rattle.raid_base.specs.declared.jobs.JobEnd.{JobEnd}
 use Rattle.raid_base.specs.declared.jobs.JobEnd.TheVariants as ends
 use Rattle.raid_base.specs.Cells.{zeros}
 use Rattle.stripe_layout.specs.Placement.{parity_bay, bay_of}
-use Rattle.row_plans.specs.Plans.{parity_of}
+use Rattle.raid_xor.specs.Parities.{parity_of}
 use Rattle.attempts.specs.Sound.{Cells, IsThis, cell_on, part_contents}
 use Rattle.script_text.specs.Script.{Script, parts_of}
 use Rattle.script_text.specs.Ranges.{IsScript}

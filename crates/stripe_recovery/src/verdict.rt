@@ -16,7 +16,7 @@ use attempts::queue::Queue;
 use attempts::rows::Row;
 use attempts::whole_rows::{all_units, parity_of};
 use raid_base::{Cell, Grant, Note, Number};
-use row_plans::{has_unit, with_unit};
+use raid_xor::{has_unit, with_unit};
 use stripe_layout::parity_bay;
 
 /// The first of these units that is missing.

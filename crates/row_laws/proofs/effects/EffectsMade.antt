@@ -11,7 +11,7 @@ use Rattle.raid_base.specs.declared.jobs.RowPart.{RowPart}
 use Rattle.raid_base.specs.Cells.{has_unit}
 use Rattle.raid_base.specs.Steps.{Commit}
 use Rattle.stripe_layout.specs.Placement.{units, units_in}
-use Rattle.row_plans.proofs.UnitBits.{bit_of_true, bit_of_false}
+use Rattle.raid_xor.proofs.UnitBits.{bit_of_true, bit_of_false}
 use Rattle.virtual_objects.specs.Objects.{rank}
 use Rattle.virtual_objects.specs.RowParts.{IsPart, AreInTurn, AreRowParts}
 use Rattle.attempts.specs.Taking.{Access, lacks}

@@ -32,7 +32,7 @@ use Rattle.raid_base.specs.Replies.{grant_of}
 use Rattle.raid_base.specs.Steps.{Steps, Standing, settled, behind, next_errand, errand_of}
 use Rattle.stripe_layout.specs.Placement.{parity_bay, bay_of}
 use Rattle.stripe_layout.proofs.LayoutLemmas.{parity_in}
-use Rattle.row_plans.proofs.UnitBits.{le_of_has}
+use Rattle.raid_xor.proofs.UnitBits.{le_of_has}
 use Rattle.virtual_objects.specs.RowParts.{IsPart}
 use Rattle.slot_rules.specs.Slots.{Slot, Bay}
 use Rattle.slot_rules.specs.Rules.{note_id}

@@ -1,4 +1,5 @@
-use Rattle.row_plans.proofs.Parities.{fewest, parity_of-append, order_free}
+use Rattle.raid_xor.proofs.Parities.{parity_of-append, order_free}
+use Rattle.row_plans.proofs.FewestReads.{fewest}
 use Rattle.row_plans.proofs.plans_read_little.Goals as goal
 
 pub returns : goal.returns

@@ -21,7 +21,7 @@ use Rattle.raid_base.specs.Steps.{Steps, next_errand, errand_of}
 use Rattle.stripe_layout.specs.Placement.{parity_bay, bay_of}
 use Rattle.stripe_layout.specs.Layout.{HoldsUnit}
 use Rattle.stripe_layout.proofs.LayoutLemmas.{covered, unit_apart}
-use Rattle.row_plans.specs.Plans.{parity_of}
+use Rattle.raid_xor.specs.Parities.{parity_of}
 use Rattle.slot_rules.specs.Slots.{Slot, Bay}
 use Rattle.slot_rules.specs.Rules.{wanted_cell, granted}
 use Rattle.slot_rules.specs.Laws.{is_refused}

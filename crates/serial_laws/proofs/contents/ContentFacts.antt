@@ -16,7 +16,7 @@ use Rattle.raid_xor.specs.Laws.{AreBlocks}
 use Rattle.raid_base.specs.declared.messages.Reply.{Reply}
 use Rattle.raid_base.specs.Replies.{grant_of, held_of}
 use Rattle.stripe_layout.specs.Placement.{parity_bay, bay_of, unit_at}
-use Rattle.row_plans.specs.Plans.{parity_of}
+use Rattle.raid_xor.specs.Parities.{parity_of}
 use Rattle.degraded_plans.specs.Rows.{IsSound, IsDataCell, AreDataCells}
 use Rattle.degraded_plans.specs.Laws.{cell_of}
 use Rattle.degraded_plans.proofs.SoundRows.{parity_blocks, parity_sound}

@@ -13,7 +13,7 @@ use Rattle.raid_base.specs.Cells.{zeros, zero_cell}
 use Rattle.raid_base.specs.Steps.{Steps, next_errand, errand_of}
 use Rattle.raid_xor.specs.Laws.{AreBlocks}
 use Rattle.stripe_layout.specs.Placement.{parity_bay, bay_of}
-use Rattle.row_plans.specs.Plans.{parity_of}
+use Rattle.raid_xor.specs.Parities.{parity_of}
 use Rattle.degraded_plans.specs.Rows.{IsSound}
 use Rattle.degraded_plans.proofs.RowUnits.{zeros_sound}
 use Rattle.slot_rules.specs.Slots.{Slot}

@@ -14,7 +14,7 @@ use Rattle.raid_base.specs.Cells.{content_of}
 use Rattle.raid_xor.specs.Laws.{AreBlocks}
 use Rattle.stripe_layout.specs.Placement.{parity_bay, bay_of, bays_of, units}
 use Rattle.stripe_layout.proofs.LayoutLemmas.{unit_distinct}
-use Rattle.row_plans.specs.Plans.{parity_of}
+use Rattle.raid_xor.specs.Parities.{parity_of}
 use Rattle.degraded_plans.specs.Rows.{RowCells, IsSound, all_present, with_cell, IsSoundIfPresent, rebuilt, others_of, shown_missing, shown_cell}
 use Rattle.degraded_plans.specs.Missing.{missing_of}
 use Rattle.degraded_plans.proofs.SoundRows.{parity_blocks, parity_sound}

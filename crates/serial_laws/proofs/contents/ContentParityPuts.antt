@@ -15,7 +15,7 @@ use Rattle.raid_base.specs.declared.jobs.Task.TheVariants as tasks
 use Rattle.raid_base.specs.Steps.{Commit, Steps, commits_next, next_errand, errand_of}
 use Rattle.raid_xor.specs.Laws.{AreBlocks}
 use Rattle.stripe_layout.specs.Placement.{parity_bay, bay_of}
-use Rattle.row_plans.specs.Plans.{parity_of}
+use Rattle.raid_xor.specs.Parities.{parity_of}
 use Rattle.degraded_plans.specs.Rows.{IsSound}
 use Rattle.degraded_plans.proofs.SoundRows.{parity_blocks}
 use Rattle.attempts.specs.Taking.{Finish}

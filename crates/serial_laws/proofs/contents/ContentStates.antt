@@ -19,7 +19,7 @@ use Rattle.raid_base.specs.Cells.{zeros, content_of}
 use Rattle.raid_base.specs.Replies.{grant_of}
 use Rattle.raid_base.specs.Steps.{Steps}
 use Rattle.stripe_layout.specs.Placement.{parity_bay, bay_of}
-use Rattle.row_plans.specs.Plans.{parity_of}
+use Rattle.raid_xor.specs.Parities.{parity_of}
 use Rattle.attempts.specs.Taking.{Finish}
 use Rattle.attempts.specs.Phases.{IsIn}
 use Rattle.attempts.specs.Sound.{Cells, ReplyShows}

@@ -27,7 +27,7 @@ use Rattle.raid_base.specs.Replies.{grant_of}
 use Rattle.raid_base.specs.Steps.{Commit, Steps, settled, commits_next, next_errand, errand_of}
 use Rattle.raid_xor.specs.Laws.{AreBlocks}
 use Rattle.stripe_layout.specs.Placement.{parity_bay, bay_of, units, units_in}
-use Rattle.row_plans.specs.Plans.{parity_of}
+use Rattle.raid_xor.specs.Parities.{parity_of}
 use Rattle.degraded_plans.specs.Laws.{changed}
 use Rattle.attempts.specs.Taking.{Access, Finish}
 use Rattle.attempts.specs.Phases.{IsIn, HasRow, RowsDiffer}

@@ -25,7 +25,7 @@ use Rattle.raid_base.specs.Steps.{Steps, Standing, settled, next_errand, errand_
 use Rattle.stripe_layout.specs.Placement.{parity_bay, bay_of}
 use Rattle.stripe_layout.specs.Layout.{HoldsUnit}
 use Rattle.stripe_layout.proofs.LayoutLemmas.{covered}
-use Rattle.row_plans.specs.Plans.{parity_of}
+use Rattle.raid_xor.specs.Parities.{parity_of}
 use Rattle.slot_rules.specs.Slots.{Slot, Bay}
 use Rattle.slot_rules.specs.Laws.{is_refused}
 use Rattle.attempts.specs.Taking.{Finish}

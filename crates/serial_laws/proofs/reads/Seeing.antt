@@ -17,7 +17,7 @@ use Rattle.raid_base.specs.declared.messages.Request.{Request}
 use Rattle.raid_base.specs.declared.messages.Request.TheVariants.{Share, Claim, Confirm, Put, Release, Lose, Fit}
 use Rattle.raid_base.specs.Steps.{Commit}
 use Rattle.stripe_layout.specs.Placement.{parity_bay, bay_of}
-use Rattle.row_plans.specs.Plans.{parity_of}
+use Rattle.raid_xor.specs.Parities.{parity_of}
 use Rattle.attempts.specs.Phases.{IsIn}
 use Rattle.attempts.specs.Sound.{IsThis, cell_on}
 use Rattle.script_text.specs.Script.{Script}

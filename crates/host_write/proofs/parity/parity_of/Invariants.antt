@@ -1,6 +1,6 @@
 use Rattle.std.proofs.Common.{◌≡◌, take, fold}
 use Rattle.raid_base.specs.Cells.{zero_cell}
-use Rattle.row_plans.specs.Plans.{fold_whole}
+use Rattle.raid_xor.specs.Parities.{fold_whole}
 use Rattle.host_write.proofs.parity.parity_of.Given as goal
 
 abbrev pub invariant-loop-cell : goal.invariant-loop-cell

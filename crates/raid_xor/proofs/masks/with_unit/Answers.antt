@@ -1,7 +1,7 @@
 use Rattle.std.proofs.Common.{◌∙◌, sym, arith}
 use Rattle.std.proofs.lemmas.Nat.{one_shl}
-use Rattle.row_plans.proofs.UnitBits.{room_of_not}
-use Rattle.row_plans.proofs.masks.with_unit.Goals as goal
+use Rattle.raid_xor.proofs.UnitBits.{room_of_not}
+use Rattle.raid_xor.proofs.masks.with_unit.Goals as goal
 
 pub overflow_add-result : goal.overflow_add-result
 overflow_add-result c =

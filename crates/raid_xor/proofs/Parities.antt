@@ -1,19 +1,15 @@
--- How parities add up, and which plan reads the fewest cells.
-use Rattle.std.proofs.Common.{◌≡◌, ◌∙◌, ℕ, ◌+◌, ◌-◌, ◌<◌, ◌≤◌, ◌==◌, nat_le, Bool, true, false, not, List, [], ◌∷◌, ◌++◌, map, filter, fold, bit_or, max, cond, refl, ap, sym, arith}
+-- How parities add up.
+use Rattle.std.proofs.Common.{◌≡◌, ◌∙◌, ℕ, Bool, true, false, not, List, [], ◌∷◌, ◌++◌, map, filter, fold, bit_or, max, cond, refl, ap, sym, arith}
 use Rattle.std.specs.Int.{bit_at}
 use Rattle.std.specs.Int.Bits.{or_zero_r, or_zero_l}
 use Rattle.std.proofs.lemmas.Nat.Bits.{bit_at_or, same_from_bits}
 use Rattle.std.proofs.lemmas.Nat.{or_comm}
-use Rattle.std.proofs.lemmas.Bool.Decides.{nat_tests}
 use Rattle.raid_base.specs.declared.cells.Cell.{Cell}
-use Rattle.raid_base.specs.declared.jobs.Plan.{Plan}
-use Rattle.raid_base.specs.declared.jobs.Plan.TheVariants.{Full, Small, Reconstruct}
 use Rattle.raid_base.specs.Cells.{zero_cell}
 use Rattle.raid_xor.specs.Sums.{xor_of, sum_of}
 use Rattle.raid_xor.specs.Laws.{AreBlocks}
 use Rattle.raid_xor.proofs.XorLemmas.{added, swap, sum_of-cons, sum_of-append, AreBlocks-append}
-use Rattle.row_plans.specs.Plans.{choose, fold_whole, parity_of}
-use Rattle.row_plans.specs.Laws.{reads, Serves}
+use Rattle.raid_xor.specs.Parities.{fold_whole, parity_of}
 
 -- a cell by its parts
 abbrev pub cell_by : List ℕ → ℕ → Cell
@@ -123,22 +119,3 @@ order_free cell chosen (u ∷ us) bs =
     split_step cell chosen u us (chosen u) refl bs
     ∙ ap (λ parity. fold_whole (cell u) parity) (order_free cell chosen us bs.1)
     ∙ sym (parity_of-cons (cell u) (map cell us) bs)
-
--- the plan
-small_least : (d k : ℕ) → k + 1 ≤ d - k → (plan : Plan) → Serves plan d k → k + 1 ≤ reads plan d k
-small_least d k p Small s = omega arith
-small_least d k p Reconstruct s = p
-small_least d k p Full s = absurd (omega arith)
-
-reconstruct_least : (d k : ℕ) → d - k ≤ k + 1 → k < d → (plan : Plan) → Serves plan d k → d - k ≤ reads plan d k
-reconstruct_least d k p q Small s = p
-reconstruct_least d k p q Reconstruct s = omega arith
-reconstruct_least d k p q Full s = absurd (omega arith)
-
-fewest_by : (d k : ℕ) (full small : Bool) → (k == d) ≡ full → nat_le (k + 1) (d - k) ≡ small → k ≤ d → Serves (choose d k) d k × ((plan : Plan) → Serves plan d k → reads (choose d k) d k ≤ reads plan d k)
-fewest_by d k true small e f q = rw e (grind (arith, nat_tests), λ plan s. omega arith)
-fewest_by d k false true e f q = rw (e, f) (tt, small_least d k (grind (arith, nat_tests)))
-fewest_by d k false false e f q = rw (e, f) (tt, reconstruct_least d k (grind (arith, nat_tests)) (grind (arith, nat_tests)))
-
-pub fewest : (d k : ℕ) → 1 ≤ k → k ≤ d → Serves (choose d k) d k × ((plan : Plan) → Serves plan d k → reads (choose d k) d k ≤ reads plan d k)
-fewest d k p q = fewest_by d k (k == d) (nat_le (k + 1) (d - k)) refl refl q
