@@ -8,8 +8,6 @@ mod laws;
 mod load;
 mod summary;
 mod tally;
-#[cfg(test)]
-mod tests;
 
 pub use laws::loads_are_scripts;
 pub use load::make_load;

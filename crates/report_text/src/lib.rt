@@ -19,6 +19,3 @@ mod words;
 pub use laws::texts_are_unique;
 pub use reading::{Report, ReportFault, read_report};
 pub use report::{Final, shown, write_report};
-
-#[cfg(test)]
-mod tests;

@@ -6,8 +6,6 @@ mod laws;
 mod lines;
 mod read;
 mod script;
-#[cfg(test)]
-mod tests;
 mod weights;
 mod words;
 mod write;

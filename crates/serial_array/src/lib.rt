@@ -8,6 +8,3 @@ pub mod laws;
 
 pub use blocks::SerialArray;
 pub use raid_base::{Content, Name, NoMemory};
-
-#[cfg(test)]
-mod tests;

@@ -4,8 +4,6 @@
 pub mod blocks;
 pub mod lines;
 pub mod numbers;
-#[cfg(test)]
-mod tests;
 pub mod words;
 pub mod writing;
 

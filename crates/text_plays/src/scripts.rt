@@ -1,7 +1,7 @@
 //! Scripts from their text.
 
-use crate::{ScriptFault, read_script, write_script};
 use raid_base::{Kind, MemorySink};
+use script_text::{ScriptFault, read_script, write_script};
 use std::test::Fail;
 use text_lines::number_text;
 

@@ -1,6 +1,6 @@
 //! Texts of numbers and blocks, each way.
 
-use crate::{block_text, number_text, read_block, read_number};
+use text_lines::{block_text, number_text, read_block, read_number};
 
 #[test]
 fn numbers_have_no_leading_zeros(rt: HostRuntime) {
