@@ -13,20 +13,20 @@ use std::test::Fail;
 /// The script is its head, the lines of its hosts and its turns. The stores of these bays fail at these calls, each counted
 /// from 0. Behind the script's turns come those of the rounds. The blocks are those of object `a`.
 #[derive(Clone, Copy)]
-pub struct Play {
-    pub head: &'static [&'static str],
-    pub hosts: &'static [&'static str],
-    pub turns: &'static [Spell],
-    pub failing: &'static [(u32, u32)],
-    pub results: &'static [&'static str],
+pub struct Play<'a> {
+    pub head: &'a [&'a str],
+    pub hosts: &'a [&'a str],
+    pub turns: &'a [Spell],
+    pub failing: &'a [(u32, u32)],
+    pub results: &'a [&'a str],
     pub count: u32,
-    pub rounds: &'static [Spell],
-    pub blocks: &'static [&'static str],
-    pub rows: &'static [&'static str],
+    pub rounds: &'a [Spell],
+    pub blocks: &'a [&'a str],
+    pub rows: &'a [&'a str],
 }
 
 /// Nothing is done on five devices.
-pub const FIVE: Play = Play {
+pub const FIVE: Play<'static> = Play {
     head: STAMPS,
     hosts: &[],
     turns: &[],
@@ -38,6 +38,22 @@ pub const FIVE: Play = Play {
     rows: &["closed"],
 };
 
+/// A store of so many blocks that stands at this place.
+fn make_store(
+    alloc: Global,
+    place: u32,
+    blocks: u32,
+    failing: &[(u32, u32)],
+) -> Result<FailingStore, Fail> {
+    let mut calls = Vec::new(alloc);
+    for (bay, call) in failing {
+        if *bay == place {
+            calls.push(*call)?;
+        }
+    }
+    Ok(FailingStore::make(alloc, blocks.saturating_add(place), calls)?)
+}
+
 /// Sixteen stores, the first with so many blocks and each next one with one more.
 fn make_stores(
     alloc: Global,
@@ -46,19 +62,13 @@ fn make_stores(
 ) -> Result<Vec<FailingStore>, Fail> {
     let mut stores = Vec::new(alloc);
     for place in 0..16 {
-        let mut calls = Vec::new(alloc);
-        for (bay, call) in failing {
-            if *bay == place {
-                calls.push(*call)?;
-            }
-        }
-        stores.push(FailingStore::make(alloc, blocks.saturating_add(place), calls)?)?;
+        stores.push(make_store(alloc, place, blocks, failing)?)?;
     }
     Ok(stores)
 }
 
 /// Whether all those stores have come back, in order.
-pub fn are_back(stores: &[FailingStore], blocks: u32) -> bool {
+fn are_back(stores: &[FailingStore], blocks: u32) -> bool {
     for (place, store) in stores.iter().enumerate() {
         if u64::from(store.blocks()) != u64::from(blocks).saturating_add(place as u64) {
             return false;
@@ -82,6 +92,39 @@ pub fn call(
     Ok((outcome, printed))
 }
 
+/// How a call has ended.
+#[derive(Clone, Copy)]
+pub struct Ending {
+    pub status: Status,
+    /// Whether all stores have come back, in order.
+    pub is_back: bool,
+    pub journals: usize,
+    pub results: usize,
+    pub turns: usize,
+}
+
+/// How a call has ended over stores of so many blocks.
+fn ending_of(outcome: &Outcome<FailingStore>, blocks: u32) -> Ending {
+    Ending {
+        status: outcome.status,
+        is_back: are_back(outcome.stores.as_slice(), blocks),
+        journals: outcome.journals.len(),
+        results: outcome.results.len(),
+        turns: outcome.turns.len(),
+    }
+}
+
+/// How a call on a script ends, and what it has printed.
+pub fn end(
+    alloc: Global,
+    script: &str,
+    blocks: u32,
+    failing: &[(u32, u32)],
+) -> Result<(Ending, String), Fail> {
+    let (outcome, printed) = call(alloc, script, blocks, failing)?;
+    Ok((ending_of(&outcome, blocks), printed))
+}
+
 /// Plays a script of so many rows, and looks for the whole report.
 pub fn check_text(
     rt: &impl Abort,
@@ -91,28 +134,30 @@ pub fn check_text(
     failing: &[(u32, u32)],
     report: &str,
 ) -> Result<(), Fail> {
-    let blocks = u32::try_from(rows)?;
-    let (outcome, printed) = call(alloc, script, blocks, failing)?;
-    assert_eq!(rt; printed.as_str(), report, "{script}");
-    assert_eq!(rt; outcome.status, Status::Done);
-    assert!(rt; are_back(outcome.stores.as_slice(), blocks));
+    let (ending, printed) = end(alloc, script, u32::try_from(rows)?, failing)?;
+    assert!(rt; printed.as_str() == report, "{script}{printed}");
+    assert!(rt; ending.status == Status::Done && ending.is_back);
     Ok(())
+}
+
+/// The whole report that is to come of a play.
+fn report_of_play(alloc: Global, play: &Play) -> Result<String, Fail> {
+    let mut report = report_of(alloc, play.results, play.count, play.turns, play.rounds)?;
+    push_state(&mut report, play.blocks, play.rows)?;
+    Ok(report)
+}
+
+/// Plays a play, and looks for its report.
+fn check_play(rt: &impl Abort, alloc: Global, play: &Play) -> Result<(), Fail> {
+    let script = script_of(alloc, play.head, play.hosts, play.turns)?;
+    let report = report_of_play(alloc, play)?;
+    let rows = play.rows.len();
+    check_text(rt, alloc, &script, rows, play.failing, &report)
 }
 
 pub fn check(rt: &impl Abort, alloc: Global, plays: &[Play]) -> Result<(), Fail> {
     for play in plays {
-        let script = script_of(alloc, play.head, play.hosts, play.turns)?;
-        let mut report = report_of(alloc, play.results, play.count, play.turns, play.rounds)?;
-        push_state(&mut report, play.blocks, play.rows)?;
-        let rows = play.rows.len();
-        check_text(
-            rt,
-            alloc,
-            script.as_str(),
-            rows,
-            play.failing,
-            report.as_str(),
-        )?;
+        check_play(rt, alloc, play)?;
     }
     Ok(())
 }

@@ -169,45 +169,95 @@ fn is_gone(results: &[JobResult]) -> bool {
     gone
 }
 
-/// Plays a script, and looks for a serial order of its results and for the sums of closed rows. A store that fails at the end may
-/// leave no report.
-fn check(rt: &impl Abort, alloc: Global, text: &str, failing: &[(u32, u32)]) -> Result<(), Fail> {
-    let (mut outcome, printed) = call(alloc, text, 2, failing)?;
-    if outcome.status != Status::Done {
-        assert!(rt; !failing.is_empty());
-        return Ok(());
+/// Whether the results take effect in the order of their numbers, and each agrees with the array.
+fn are_serial(
+    script: &Script,
+    report: &Report,
+    array: &mut SerialArray,
+    order: &[(u64, usize)],
+) -> bool {
+    for (_, place) in order {
+        if !take_effect(script, report, array, *place) {
+            return false;
+        }
     }
+    rise(report.results.as_slice(), order)
+}
+
+/// Whether each block that is seen at the end is what the array has.
+fn shows(report: &Report, array: &SerialArray) -> bool {
+    for (name, block, shown) in &report.blocks {
+        if let Shown::Seen(content) = shown {
+            if array.get(name, *block) != Some(*content) {
+                return false;
+            }
+        }
+    }
+    true
+}
+
+/// Whether the blocks of each of these rows that is closed add up to zeros.
+fn add_up(stores: &mut [FailingStore], rows: &[bool]) -> Result<bool, Fail> {
+    for (row, closed) in (0..u16::MAX).zip(rows) {
+        if *closed && sum_of(stores, RowNo(row))? != [0; 64] {
+            return Ok(false);
+        }
+    }
+    Ok(true)
+}
+
+/// What is wrong with a report, if anything: its results have no serial order, or its blocks are not what they leave.
+fn fault_of(alloc: Global, script: &Script, report: &Report) -> Result<Option<&'static str>, Fail> {
+    let mut array = SerialArray::make(alloc, script)?;
+    let order = in_order(alloc, report.results.as_slice())?;
+    if !are_serial(script, report, &mut array, order.as_slice()) {
+        return Ok(Some("no serial order"));
+    }
+    if !shows(report, &array) {
+        return Ok(Some("another block"));
+    }
+    Ok(None)
+}
+
+/// What is wrong with what was printed of a play, or with the rows that it leaves.
+fn fault_in(
+    alloc: Global,
+    text: &str,
+    printed: &str,
+    stores: &mut [FailingStore],
+) -> Result<Option<&'static str>, Fail> {
     if text.len() >= 1 << 20 || printed.len() >= 1 << 20 {
-        return Err("too long")?;
+        return Ok(Some("too long"));
     }
     let script = read_script(alloc, text.as_bytes())?;
     let report = read_report(alloc, printed.as_bytes())?;
-    let mut array = SerialArray::make(alloc, &script)?;
-    let order = in_order(alloc, report.results.as_slice())?;
-    assert!(rt;
-        rise(report.results.as_slice(), order.as_slice()),
-        "{text}{printed}"
-    );
-    for (_, place) in &order {
-        assert!(rt;
-            take_effect(&script, &report, &mut array, *place),
-            "{text}{printed}"
-        );
+    if is_gone(report.results.as_slice()) || add_up(stores, report.rows.as_slice())? {
+        fault_of(alloc, &script, &report)
+    } else {
+        Ok(Some("a closed row that does not add up"))
     }
-    for (name, block, shown) in &report.blocks {
-        if let Shown::Seen(content) = shown {
-            assert_eq!(rt; array.get(name, *block), Some(*content), "{text}{printed}");
-        }
+}
+
+/// What is wrong with a play. A store that fails at the end may leave no report.
+fn fault_of_play(
+    alloc: Global,
+    text: &str,
+    failing: &[(u32, u32)],
+) -> Result<Option<&'static str>, Fail> {
+    let (mut outcome, printed) = call(alloc, text, 2, failing)?;
+    if outcome.status == Status::Done {
+        fault_in(alloc, text, printed.as_str(), outcome.stores.as_mut_slice())
+    } else if failing.is_empty() {
+        Ok(Some("not done"))
+    } else {
+        Ok(None)
     }
-    if is_gone(report.results.as_slice()) {
-        return Ok(());
-    }
-    for (row, closed) in (0..u16::MAX).zip(&report.rows) {
-        if *closed {
-            let sum = sum_of(outcome.stores.as_mut_slice(), RowNo(row))?;
-            assert_eq!(rt; sum, [0; 64], "{text}{printed}");
-        }
-    }
+}
+
+/// Plays a script, and looks for a serial order of its results and for the sums of closed rows.
+fn check(rt: &impl Abort, alloc: Global, text: &str, failing: &[(u32, u32)]) -> Result<(), Fail> {
+    let fault = fault_of_play(alloc, text, failing)?;
+    assert!(rt; fault.is_none(), "{text}");
     Ok(())
 }
 
@@ -231,15 +281,35 @@ fn stopped(alloc: Global, head: &[&str], quit: &str, before: u64) -> Result<Stri
     Ok(text)
 }
 
+/// The words of a job that stops after so many requests.
+const QUITS: [&str; 12] = [
+    "quit 1 ", "quit 2 ", "quit 3 ", "quit 4 ", "quit 5 ", "quit 6 ", "quit 7 ", "quit 8 ",
+    "quit 9 ", "quit 10 ", "quit 11 ", "quit 12 ",
+];
+
+/// A write that stops so, with a loss at each place.
+fn check_stop(rt: &impl Abort, alloc: Global, head: &[&str], quit: &str) -> Result<(), Fail> {
+    for before in 0..13 {
+        let script = stopped(alloc, head, quit, before)?;
+        check(rt, alloc, script.as_str(), &[])?;
+    }
+    Ok(())
+}
+
 #[test]
 fn a_stop_and_a_loss_at_each_place_leave_a_serial_order(rt: HostRuntime) -> Result<(), Fail> {
-    for head in [STAMPS, LOCKS] {
-        for quit in 1..13 {
-            let quit = format!(in rt.alloc(); "quit {quit} ")?;
-            for before in 0..13 {
-                let script = stopped(rt.alloc(), head, quit.as_str(), before)?;
-                check(&rt, rt.alloc(), script.as_str(), &[])?;
-            }
+    for quit in &QUITS {
+        check_stop(&rt, rt.alloc(), STAMPS, quit)?;
+        check_stop(&rt, rt.alloc(), LOCKS, quit)?;
+    }
+    Ok(())
+}
+
+/// A script over stores of which one fails at each of its calls.
+fn check_stores(rt: &impl Abort, alloc: Global, script: &str) -> Result<(), Fail> {
+    for bay in 0..5 {
+        for fails in 1..10 {
+            check(rt, alloc, script, &[(bay, fails)])?;
         }
     }
     Ok(())
@@ -250,11 +320,7 @@ fn a_failing_store_and_a_loss_leave_a_serial_order(rt: HostRuntime) -> Result<()
     for head in [STAMPS, LOCKS] {
         for before in [0, 3, 6, 7, 9] {
             let script = stopped(rt.alloc(), head, "", before)?;
-            for bay in 0..5 {
-                for fails in 1..10 {
-                    check(&rt, rt.alloc(), script.as_str(), &[(bay, fails)])?;
-                }
-            }
+            check_stores(&rt, rt.alloc(), script.as_str())?;
         }
     }
     Ok(())

@@ -1,7 +1,6 @@
 //! A write that stops after each of its requests.
 
-use crate::playing::check_text;
-use crate::texts::{STAMPS, push_state, report_of, script_of};
+use crate::playing::{FIVE, Play, check};
 use std::alloc::Global;
 use std::process::Abort;
 use std::test::Fail;
@@ -17,18 +16,25 @@ fn check_stop(
     row: &str,
 ) -> Result<(), Fail> {
     let turns = [(1, 1, u64::from(requests))];
-    let script = script_of(alloc, STAMPS, &["host 1", job], &turns)?;
-    let mut report = report_of(alloc, &[end], requests, &turns, &[])?;
-    push_state(&mut report, blocks, &[row])?;
-    check_text(rt, alloc, script.as_str(), 1, &[], report.as_str())?;
-    let hosts = ["host 1", job, "host 2", "recover 0"];
+    let left = Play {
+        hosts: &["host 1", job],
+        turns: &turns,
+        results: &[end],
+        count: requests,
+        blocks,
+        rows: &[row],
+        ..FIVE
+    };
     let all = [(1, 1, u64::from(requests)), (2, 20, 30)];
-    let script = script_of(alloc, STAMPS, &hosts, &all)?;
-    let results = [end, "2 0 recovered 18 closed none"];
-    let count = requests.saturating_add(11);
-    let mut report = report_of(alloc, &results, count, &all, &[])?;
-    push_state(&mut report, blocks, &["closed"])?;
-    check_text(rt, alloc, script.as_str(), 1, &[], report.as_str())
+    let recovered = Play {
+        hosts: &["host 1", job, "host 2", "recover 0"],
+        turns: &all,
+        results: &[end, "2 0 recovered 18 closed none"],
+        count: requests.saturating_add(11),
+        rows: &["closed"],
+        ..left
+    };
+    check(rt, alloc, &[left, recovered])
 }
 
 /// A write of two blocks stops after each of its nine requests: the claim of the parity, two shares, two claims, the confirm,

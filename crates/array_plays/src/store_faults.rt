@@ -1,6 +1,6 @@
 //! Plays over stores that fail.
 
-use crate::playing::{FIVE, Play, are_back, call, check};
+use crate::playing::{FIVE, Play, check, end};
 use crate::texts::{STAMPS, THREE, script_of};
 use raid_base::{BayNo, Status};
 use std::test::Fail;
@@ -91,14 +91,12 @@ fn a_store_that_fails_at_the_end_is_named(rt: HostRuntime) -> Result<(), Fail> {
         (0, &[(0, 1), (0, 4)], 8),
     ];
     for (bay, failing, turns) in table {
-        let (outcome, printed) = call(rt.alloc(), script.as_str(), 1, failing)?;
+        let (ending, printed) = end(rt.alloc(), script.as_str(), 1, failing)?;
         let bay = BayNo(bay);
-        assert_eq!(rt; outcome.status, Status::StoreFault { bay });
-        assert_eq!(rt; printed.as_str(), "");
-        assert!(rt; are_back(outcome.stores.as_slice(), 1));
-        assert_eq!(rt; outcome.journals.len(), 5);
-        assert_eq!(rt; outcome.results.len(), 1);
-        assert_eq!(rt; outcome.turns.len(), turns);
+        assert!(rt; printed.is_empty());
+        assert!(rt; ending.status == Status::StoreFault { bay } && ending.is_back);
+        assert!(rt; ending.journals == 5 && ending.results == 1);
+        assert_eq!(rt; ending.turns, turns);
     }
     Ok(())
 }
