@@ -14,6 +14,8 @@ mod recoveries;
 #[cfg(test)]
 mod refusals;
 #[cfg(test)]
+mod serial_orders;
+#[cfg(test)]
 mod serial_plays;
 #[cfg(test)]
 mod smallest;

@@ -5,7 +5,7 @@ ghost use Rattle.script_text.specs.Ranges.{IsScript};
 ghost use Rattle.host_engine.specs.Ready.{IsReady};
 
 use host_engine::{Host, lookup};
-use raid_base::{Answer, BayNo, HostNo, JobEnd, Reply, Request, fits};
+use raid_base::{Answer, BayNo, Content, HostNo, JobEnd, JobResult, Reply, Request, fits};
 use script_text::{Script, read_script};
 use std::alloc::Global;
 use std::process::Abort;
@@ -38,7 +38,7 @@ pub fn make_host<'s>(alloc: Global, no: HostNo, script: &'s Script) -> Result<Ho
 }
 
 /// Takes this reply, if it fits, and says what was asked.
-pub fn tell(host: &mut Host, reply: &Reply) -> Option<(BayNo, Request)>
+fn tell(host: &mut Host, reply: &Reply) -> Option<(BayNo, Request)>
     requires { IsReady host.old }
     ensures { IsReady host.new }
 {
@@ -57,7 +57,7 @@ pub fn tell(host: &mut Host, reply: &Reply) -> Option<(BayNo, Request)>
 }
 
 /// The script with these hosts and jobs.
-pub fn script_of(alloc: Global, hosts: &[u8]) -> Result<Script, Fail>
+fn script_of(alloc: Global, hosts: &[u8]) -> Result<Script, Fail>
     ensures { IfOk result IsScript }
 {
     let mut text = Vec::new(alloc);
@@ -73,6 +73,45 @@ pub fn script_of(alloc: Global, hosts: &[u8]) -> Result<Script, Fail>
     }
 }
 
+/// How many of these requests a host asks, one after another, where it is told these replies.
+fn asked(host: &mut Host, steps: &[Step]) -> usize
+    requires { IsReady host.old }
+{
+    for (place, (bay, request, reply)) in steps.iter().enumerate() {
+        if tell(host, reply) != Some((BayNo(*bay), *request)) {
+            return place;
+        }
+    }
+    steps.len()
+}
+
+/// Whether the jobs of a host have ended so.
+fn have_ended(results: &[JobResult], no: HostNo, ends: &[JobEnd]) -> bool {
+    for (job, (result, end)) in results.iter().zip(ends).enumerate() {
+        if result.host != no || result.job as usize != job || result.end != *end {
+            return false;
+        }
+    }
+    results.len() == ends.len()
+}
+
+/// How many of these requests the host with these jobs asks, and whether its jobs have ended so and nothing more is asked.
+fn played(
+    alloc: Global,
+    no: HostNo,
+    hosts: &[u8],
+    steps: &[Step],
+    ends: &[JobEnd],
+) -> Result<(usize, bool), Fail>
+    requires { no.0 < 16 }
+{
+    let script = script_of(alloc, hosts)?;
+    let mut host = make_host(alloc, no, &script)?;
+    let count = asked(&mut host, steps);
+    let is_over = host.next(MOMENT).is_none() && host.transcript().len() == steps.len();
+    Ok((count, is_over && have_ended(host.results(), no, ends)))
+}
+
 /// The host with these jobs is told these replies. Its requests and results are compared.
 pub fn plays(
     rt: &impl Abort,
@@ -84,18 +123,24 @@ pub fn plays(
 ) -> Result<(), Fail>
     requires { no.0 < 16 }
 {
+    let (count, is_as_told) = played(alloc, no, hosts, steps, ends)?;
+    assert_eq!(rt; count, steps.len());
+    assert!(rt; is_as_told);
+    Ok(())
+}
+
+/// Whether the host with these jobs has read these contents once it was told these replies.
+pub fn has_read(
+    alloc: Global,
+    no: HostNo,
+    hosts: &[u8],
+    steps: &[Step],
+    contents: &[Content],
+) -> Result<bool, Fail>
+    requires { no.0 < 16 }
+{
     let script = script_of(alloc, hosts)?;
     let mut host = make_host(alloc, no, &script)?;
-    for (bay, request, reply) in steps {
-        assert_eq!(rt; tell(&mut host, reply), Some((BayNo(*bay), *request)));
-    }
-    assert_eq!(rt; host.next(MOMENT), None);
-    assert_eq!(rt; host.transcript().len(), steps.len());
-    let results = host.results();
-    assert_eq!(rt; results.len(), ends.len());
-    for (job, (result, end)) in results.iter().zip(ends).enumerate() {
-        let told = (result.host, result.job as usize, result.end);
-        assert_eq!(rt; told, (no, job, *end));
-    }
-    Ok(())
+    let count = asked(&mut host, steps);
+    Ok(count == steps.len() && host.read_contents() == contents)
 }

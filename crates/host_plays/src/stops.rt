@@ -1,6 +1,6 @@
 //! Hosts that stop after so many requests of a job.
 
-use crate::hosts::{HOST, OPERATOR, Step, make_host, plays, script_of, tell};
+use crate::hosts::{HOST, OPERATOR, Step, has_read, plays};
 use crate::steps::{BUSY, NOTE, attempt_on, cell, fitted, granted, lost, shown};
 use raid_base::{Cause, Content, How, JobEnd, Number};
 use std::test::Fail;
@@ -64,15 +64,8 @@ fn a_host_goes_on_where_it_does_not_stop(rt: HostRuntime) -> Result<(), Fail> {
     ];
     let jobs = b"host 1\nquit 7 write a 0 41\nread a 0 1\n";
     plays(&rt, rt.alloc(), HOST, jobs, &steps, &ends)?;
-    let script = script_of(rt.alloc(), jobs)?;
-    let mut host = make_host(rt.alloc(), HOST, &script)?;
-    for (_, _, reply) in &steps {
-        let _ = tell(&mut host, reply);
-    }
-    assert_eq!(rt;
-        host.read_contents(),
-        [Content::Bytes([0x41; 64])].as_slice()
-    );
+    let contents = [Content::Bytes([0x41; 64])];
+    assert!(rt; has_read(rt.alloc(), HOST, jobs, &steps, &contents)?);
     Ok(())
 }
 
