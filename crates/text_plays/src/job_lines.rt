@@ -5,6 +5,7 @@ use raid_base::{
 };
 use report_text::{Final, Report, read_report, write_report};
 use script_text::read_script;
+use std::alloc::Global;
 use std::test::Fail;
 
 /// A script in which host 3 reads three blocks, writes one and then three.
@@ -82,12 +83,8 @@ const CONTENTS: [Content; 3] = [
 ];
 
 /// The report of a small array with these results and contents, whose only row is open.
-fn written(
-    rt: &HostRuntime,
-    results: &[JobResult],
-    contents: &[Content],
-) -> Result<MemorySink, Fail> {
-    let script = read_script(rt.alloc(), JOBS)?;
+fn written(alloc: Global, results: &[JobResult], contents: &[Content]) -> Result<MemorySink, Fail> {
+    let script = read_script(alloc, JOBS)?;
     let view = Final {
         script: &script,
         results,
@@ -96,14 +93,14 @@ fn written(
         cells: &[],
         opened: &[true],
     };
-    let mut sink = MemorySink::make(rt.alloc(), 1000, Vec::new(rt.alloc()))?;
+    let mut sink = MemorySink::make(alloc, 1000, Vec::new(alloc))?;
     write_report(&mut sink, &view)?;
     Ok(sink)
 }
 
 /// A report with these job lines, and little else.
-fn text_with(rt: &HostRuntime, lines: &[u8]) -> Result<Vec<u8>, Fail> {
-    let mut text = Vec::new(rt.alloc());
+fn text_with(alloc: Global, lines: &[u8]) -> Result<Vec<u8>, Fail> {
+    let mut text = Vec::new(alloc);
     text.extend_from_slice(b"report 1\n")?;
     text.extend_from_slice(lines)?;
     text.extend_from_slice(b"turns 0\nrow 0 open\nend\n")?;
@@ -111,17 +108,17 @@ fn text_with(rt: &HostRuntime, lines: &[u8]) -> Result<Vec<u8>, Fail> {
 }
 
 /// What is read of a report with these job lines.
-fn read_with(rt: &HostRuntime, lines: &[u8]) -> Result<Report, Fail> {
-    let text = text_with(rt, lines)?;
+fn read_with(alloc: Global, lines: &[u8]) -> Result<Report, Fail> {
+    let text = text_with(alloc, lines)?;
     if text.len() > 2000 {
         return Err(Fail::from("a long text"));
     }
-    Ok(read_report(rt.alloc(), text.as_slice())?)
+    Ok(read_report(alloc, text.as_slice())?)
 }
 
 /// The results of a host's jobs, one after another.
-fn results_of(rt: &HostRuntime, host: HostNo, ends: &[JobEnd]) -> Result<Vec<JobResult>, Fail> {
-    let mut results = Vec::new(rt.alloc());
+fn results_of(alloc: Global, host: HostNo, ends: &[JobEnd]) -> Result<Vec<JobResult>, Fail> {
+    let mut results = Vec::new(alloc);
     for (job, end) in ends.iter().enumerate() {
         results.push(JobResult {
             host,
@@ -132,29 +129,64 @@ fn results_of(rt: &HostRuntime, host: HostNo, ends: &[JobEnd]) -> Result<Vec<Job
     Ok(results)
 }
 
+/// Whether these ends of a host's jobs, with what was read, are written as these lines.
+fn are_written(
+    alloc: Global,
+    host: HostNo,
+    ends: &[JobEnd],
+    contents: &[Content],
+    lines: &[u8],
+) -> Result<bool, Fail> {
+    let results = results_of(alloc, host, ends)?;
+    let sink = written(alloc, results.as_slice(), contents)?;
+    let text = text_with(alloc, lines)?;
+    Ok(sink.written() == text.as_slice())
+}
+
+/// Whether these ends of a host's jobs are read from these lines.
+fn are_read(alloc: Global, host: HostNo, ends: &[JobEnd], lines: &[u8]) -> Result<bool, Fail> {
+    let results = results_of(alloc, host, ends)?;
+    let report = read_with(alloc, lines)?;
+    Ok(report.results.as_slice() == results.as_slice())
+}
+
 #[test]
 fn each_end_has_its_line(rt: HostRuntime) -> Result<(), Fail> {
-    let results = results_of(&rt, HostNo(3), &ends())?;
-    let sink = written(&rt, results.as_slice(), &CONTENTS)?;
-    assert!(rt; sink.written() == text_with(&rt, ENDS)?.as_slice());
+    assert!(rt; are_written(rt.alloc(), HostNo(3), &ends(), &CONTENTS, ENDS)?);
     Ok(())
+}
+
+/// Whether the first of fifteen results has read these contents, and the others nothing.
+fn has_contents(report: &Report, contents: &[Content]) -> bool {
+    for (job, read) in report.contents.iter().enumerate() {
+        let expected: &[Content] = if job == 0 { contents } else { &[] };
+        if read.as_slice() != expected {
+            return false;
+        }
+    }
+    report.contents.len() == 15
+}
+
+/// Whether a report with these lines has these contents, and these flags.
+fn is_read(
+    alloc: Global,
+    lines: &[u8],
+    contents: &[Content],
+    flags: &[u8],
+) -> Result<(bool, bool), Fail> {
+    let report = read_with(alloc, lines)?;
+    Ok((
+        has_contents(&report, contents),
+        report.flags.as_slice() == flags,
+    ))
 }
 
 #[test]
 fn each_end_is_read_back(rt: HostRuntime) -> Result<(), Fail> {
-    let report = read_with(&rt, ENDS)?;
-    assert_eq!(rt; report.results.len(), 15);
-    for (ended, end) in report.results.iter().zip(&ends()) {
-        assert_eq!(rt; ended.host, HostNo(3));
-        assert_eq!(rt; ended.end, *end);
-    }
-    assert_eq!(rt; report.contents.len(), 15);
-    for (job, contents) in report.contents.iter().enumerate() {
-        let expected: &[Content] = if job == 0 { &CONTENTS } else { &[] };
-        assert!(rt; contents.as_slice() == expected);
-    }
+    assert!(rt; are_read(rt.alloc(), HostNo(3), &ends(), ENDS)?);
     let flags = [0, 0, 3, 0, 0, 0, 0, 0, 0, 0, 0, 0, 0, 0, 0];
-    assert!(rt; report.flags.as_slice() == flags.as_slice());
+    let is = is_read(rt.alloc(), ENDS, &CONTENTS, &flags)?;
+    assert_eq!(rt; is, (true, true));
     Ok(())
 }
 
@@ -203,9 +235,7 @@ fn gave(causes: &[Cause; 12]) -> [JobEnd; 12] {
 #[test]
 fn each_cause_has_its_words(rt: HostRuntime) -> Result<(), Fail> {
     let ends = gave(&causes(note(1, 17), note(0, 16)));
-    let results = results_of(&rt, HostNo(15), &ends)?;
-    let sink = written(&rt, results.as_slice(), &[])?;
-    assert!(rt; sink.written() == text_with(&rt, CAUSES)?.as_slice());
+    assert!(rt; are_written(rt.alloc(), HostNo(15), &ends, &[], CAUSES)?);
     Ok(())
 }
 
@@ -222,15 +252,7 @@ fn holder(host: u8, id: u64) -> Note {
 
 #[test]
 fn each_cause_is_read_back(rt: HostRuntime) -> Result<(), Fail> {
-    let report = read_with(&rt, CAUSES)?;
-    assert_eq!(rt; report.results.len(), 12);
-    let causes = causes(holder(1, 17), holder(0, 16));
-    for (ended, cause) in report.results.iter().zip(&causes) {
-        let end = JobEnd::Gave {
-            tries: 1,
-            cause: *cause,
-        };
-        assert_eq!(rt; ended.end, end);
-    }
+    let ends = gave(&causes(holder(1, 17), holder(0, 16)));
+    assert!(rt; are_read(rt.alloc(), HostNo(15), &ends, CAUSES)?);
     Ok(())
 }

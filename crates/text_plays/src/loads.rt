@@ -3,6 +3,7 @@
 use load_maker::{loads_are_scripts, make_load};
 use raid_base::MemorySink;
 use script_text::{read_script, total, write_script};
+use std::alloc::Global;
 use std::test::Fail;
 use text_lines::number_text;
 
@@ -76,8 +77,8 @@ fn push_object(text: &mut Vec<u8>, label: &[u8], first: u32) -> Result<(), Fail>
 }
 
 /// The text of a load's script of this mode, with these lines of hosts.
-fn text_with(rt: &HostRuntime, mode: &[u8], hosts: &[u8]) -> Result<Vec<u8>, Fail> {
-    let mut text = Vec::new(rt.alloc());
+fn text_with(alloc: Global, mode: &[u8], hosts: &[u8]) -> Result<Vec<u8>, Fail> {
+    let mut text = Vec::new(alloc);
     text.extend_from_slice(b"raid 1\ndevices 8\nrows 512\nmode ")?;
     text.extend_from_slice(mode)?;
     text.extend_from_slice(b"\npatience 64\ntries 8\n")?;
@@ -88,48 +89,54 @@ fn text_with(rt: &HostRuntime, mode: &[u8], hosts: &[u8]) -> Result<Vec<u8>, Fai
 }
 
 /// The text of a load's script.
-fn text_of(rt: &HostRuntime, n: u32) -> Result<MemorySink, Fail> {
-    let mut sink = MemorySink::make(rt.alloc(), 1_000_000, Vec::new(rt.alloc()))?;
+fn text_of(alloc: Global, n: u32) -> Result<MemorySink, Fail> {
+    let mut sink = MemorySink::make(alloc, 1_000_000, Vec::new(alloc))?;
     if n >= 1 && n <= 1500 {
-        let script = make_load(rt.alloc(), n)?;
+        let script = make_load(alloc, n)?;
         write_script(&mut sink, &script)?;
     }
     Ok(sink)
 }
 
+/// Whether a load has the script of this mode, with these lines of hosts.
+fn is_load(alloc: Global, n: u32, mode: &[u8], hosts: &[u8]) -> Result<bool, Fail> {
+    let text = text_with(alloc, mode, hosts)?;
+    let sink = text_of(alloc, n)?;
+    Ok(sink.written() == text.as_slice())
+}
+
 #[test]
 fn loads_are_these_scripts(rt: HostRuntime) -> Result<(), Fail> {
-    let loads: [(u32, &[u8], &[u8]); 3] = [
-        (1, b"lock", LOAD_1),
-        (2, b"order", LOAD_2),
-        (10, b"order", LOAD_10),
-    ];
-    for (n, mode, hosts) in loads {
-        let text = text_with(&rt, mode, hosts)?;
-        assert!(rt; text_of(&rt, n)?.written() == text.as_slice());
-    }
+    assert!(rt; is_load(rt.alloc(), 1, b"lock", LOAD_1)?);
+    assert!(rt; is_load(rt.alloc(), 2, b"order", LOAD_2)?);
+    assert!(rt; is_load(rt.alloc(), 10, b"order", LOAD_10)?);
     Ok(())
+}
+
+/// Whether the script that is read from a load's text is written as that text.
+fn is_read_back(alloc: Global, text: &[u8]) -> Result<bool, Fail> {
+    if text.len() >= 1_000_000 {
+        return Ok(false);
+    }
+    let script = read_script(alloc, text)?;
+    let mut again = MemorySink::make(alloc, 1_000_000, Vec::new(alloc))?;
+    write_script(&mut again, &script)?;
+    Ok(again.written() == text)
 }
 
 #[test]
 fn a_load_is_read_back_from_its_text(rt: HostRuntime) -> Result<(), Fail> {
-    let sink = text_of(&rt, 1500)?;
-    if sink.written().len() >= 1_000_000 {
-        return Err(Fail::from("a long text"));
-    }
-    let script = read_script(rt.alloc(), sink.written())?;
-    let mut again = MemorySink::make(rt.alloc(), 1_000_000, Vec::new(rt.alloc()))?;
-    write_script(&mut again, &script)?;
-    assert!(rt; again.written() == sink.written());
+    let sink = text_of(rt.alloc(), 1500)?;
+    assert!(rt; is_read_back(rt.alloc(), sink.written())?);
     Ok(())
 }
 
 /// The total weight of a load's script, and 0 where there is no such load.
-fn total_weight(rt: &HostRuntime, n: u32) -> Result<u64, Fail> {
+fn total_weight(alloc: Global, n: u32) -> Result<u64, Fail> {
     if n < 1 || n > 1500 {
         return Ok(0);
     }
-    let script = make_load(rt.alloc(), n)?;
+    let script = make_load(alloc, n)?;
     loads_are_scripts();
     Ok(total(&script))
 }
@@ -143,7 +150,7 @@ fn loads_weigh_so_much(rt: HostRuntime) -> Result<(), Fail> {
         (1000, 514_064),
         (1500, 698_640),
     ] {
-        assert_eq!(rt; total_weight(&rt, n)?, weight);
+        assert_eq!(rt; total_weight(rt.alloc(), n)?, weight);
     }
     Ok(())
 }

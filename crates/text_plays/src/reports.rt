@@ -2,8 +2,9 @@
 
 use crate::report_sections::cell;
 use raid_base::{Content, HostNo, JobEnd, JobResult, MemorySink, Name, Number, Shown, Turn};
-use report_text::{Final, ReportFault, read_report, write_report};
+use report_text::{Final, Report, ReportFault, read_report, write_report};
 use script_text::read_script;
+use std::alloc::Global;
 use std::test::Fail;
 
 const SCRIPT: &[u8] = b"raid 1
@@ -73,9 +74,10 @@ fn turns() -> [Turn; 7] {
     ]
 }
 
-/// The report of the smallest array, into a sink with this much room.
-fn written(rt: &HostRuntime, room: u32) -> Result<(MemorySink, bool), Fail> {
-    let script = read_script(rt.alloc(), SCRIPT)?;
+/// Whether the report of the smallest array is done in a sink with this much room, how often the sink has failed, and whether
+/// this text was written.
+fn written(alloc: Global, room: u32, text: &[u8]) -> Result<(bool, u64, bool), Fail> {
+    let script = read_script(alloc, SCRIPT)?;
     let view = Final {
         script: &script,
         results: &results(),
@@ -84,48 +86,62 @@ fn written(rt: &HostRuntime, room: u32) -> Result<(MemorySink, bool), Fail> {
         cells: &[cell(0x41, 0), cell(0, 0), cell(0x41, 0)],
         opened: &[false],
     };
-    let mut sink = MemorySink::make(rt.alloc(), room, Vec::new(rt.alloc()))?;
+    let mut sink = MemorySink::make(alloc, room, Vec::new(alloc))?;
     let is_done = write_report(&mut sink, &view).is_ok();
-    Ok((sink, is_done))
+    Ok((is_done, sink.faults(), sink.written() == text))
 }
 
 #[test]
 fn the_smallest_array_is_reported(rt: HostRuntime) -> Result<(), Fail> {
-    let (sink, is_done) = written(&rt, 1000)?;
-    assert!(rt; is_done);
-    assert!(rt; sink.written() == REPORT);
+    assert_eq!(rt; written(rt.alloc(), 1000, REPORT)?, (true, 0, true));
     Ok(())
 }
 
 #[test]
 fn a_full_sink_has_a_first_part_of_the_report(rt: HostRuntime) -> Result<(), Fail> {
-    let (sink, is_done) = written(&rt, 35)?;
-    assert!(rt; !is_done);
-    assert_eq!(rt; sink.faults(), 1);
-    assert!(rt; sink.written() == b"report 1\njob 1 0 wrote 1\njob 1 1 re".as_slice());
+    let part = b"report 1\njob 1 0 wrote 1\njob 1 1 re";
+    assert_eq!(rt; written(rt.alloc(), 35, part)?, (false, 1, true));
     Ok(())
+}
+
+/// Whether a report has the results of the smallest array, with what was read and no flags.
+fn has_results(report: &Report) -> bool {
+    let [wrote, read] = report.contents.as_slice() else {
+        return false;
+    };
+    wrote.is_empty()
+        && read.as_slice() == [Content::Bytes([0x41; 64])].as_slice()
+        && report.results.as_slice() == results().as_slice()
+        && report.flags.as_slice() == [0, 0].as_slice()
+}
+
+/// Whether a block of the object is shown with equal bytes.
+fn shows(shown: &(Name, u32, Shown), block: u32, byte: u8) -> bool {
+    Name::new(b"a") == Some(shown.0)
+        && shown.1 == block
+        && shown.2 == Shown::Seen(Content::Bytes([byte; 64]))
+}
+
+/// Whether a report has the turns, the blocks and the row of the smallest array.
+fn has_state(report: &Report) -> bool {
+    let [first, second] = report.blocks.as_slice() else {
+        return false;
+    };
+    shows(first, 0, 0x41)
+        && shows(second, 1, 0)
+        && report.turns.as_slice() == turns().as_slice()
+        && report.rows.as_slice() == [true].as_slice()
+}
+
+/// What is read of the report of the smallest array: whether it has the results, and the state.
+fn read(alloc: Global) -> Result<(bool, bool), Fail> {
+    let report = read_report(alloc, REPORT)?;
+    Ok((has_results(&report), has_state(&report)))
 }
 
 #[test]
 fn the_smallest_report_is_read(rt: HostRuntime) -> Result<(), Fail> {
-    let report = read_report(rt.alloc(), REPORT)?;
-    assert!(rt; report.results.as_slice() == results().as_slice());
-    let [wrote, read] = report.contents.as_slice() else {
-        return Err(Fail::from("not two results"));
-    };
-    assert!(rt; wrote.is_empty());
-    assert!(rt; read.as_slice() == [Content::Bytes([0x41; 64])].as_slice());
-    assert!(rt; report.flags.as_slice() == [0, 0].as_slice());
-    assert!(rt; report.turns.as_slice() == turns().as_slice());
-    let [first, second] = report.blocks.as_slice() else {
-        return Err(Fail::from("not two blocks"));
-    };
-    let name = Name::new(b"a").ok_or("no name")?;
-    assert!(rt; first.0 == name && first.1 == 0);
-    assert!(rt; second.0 == name && second.1 == 1);
-    assert_eq!(rt; first.2, Shown::Seen(Content::Bytes([0x41; 64])));
-    assert_eq!(rt; second.2, Shown::Seen(Content::Bytes([0; 64])));
-    assert!(rt; report.rows.as_slice() == [true].as_slice());
+    assert_eq!(rt; read(rt.alloc())?, (true, true));
     Ok(())
 }
 

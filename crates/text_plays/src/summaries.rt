@@ -5,6 +5,7 @@ use load_maker::write_summary;
 use raid_base::{BayNo, Cause, HostNo, JobEnd, JobResult, MemorySink, Number, RowNo, Turn};
 use report_text::Final;
 use script_text::read_script;
+use std::alloc::Global;
 use std::test::Fail;
 
 const SCRIPT: &[u8] =
@@ -50,9 +51,11 @@ fn results() -> [JobResult; 8] {
     ]
 }
 
-/// The summary of six blocks: 41, one that is lost, 33 which is made of 0f and 3c, 0f, 05, and one that is hidden.
-fn summary(rt: &HostRuntime, room: u32) -> Result<(MemorySink, bool), Fail> {
-    let script = read_script(rt.alloc(), SCRIPT)?;
+/// Whether the summary is done in a sink with this much room, how often the sink has failed, and whether this text was written.
+///
+/// It is of six blocks: 41, one that is lost, 33 which is made of 0f and 3c, 0f, 05, and one that is hidden.
+fn summary(alloc: Global, room: u32, text: &[u8]) -> Result<(bool, u64, bool), Fail> {
+    let script = read_script(alloc, SCRIPT)?;
     let turn = Turn {
         host: HostNo(1),
         moment: 99,
@@ -75,24 +78,19 @@ fn summary(rt: &HostRuntime, room: u32) -> Result<(MemorySink, bool), Fail> {
         ],
         opened: &[false, false, true],
     };
-    let mut sink = MemorySink::make(rt.alloc(), room, Vec::new(rt.alloc()))?;
+    let mut sink = MemorySink::make(alloc, room, Vec::new(alloc))?;
     let is_done = write_summary(&mut sink, 7, &view).is_ok();
-    Ok((sink, is_done))
+    Ok((is_done, sink.faults(), sink.written() == text))
 }
 
 #[test]
 fn a_world_is_summed_up(rt: HostRuntime) -> Result<(), Fail> {
-    let (sink, is_done) = summary(&rt, 1000)?;
-    assert!(rt; is_done);
-    assert!(rt; sink.written() == SUMMARY);
+    assert_eq!(rt; summary(rt.alloc(), 1000, SUMMARY)?, (true, 0, true));
     Ok(())
 }
 
 #[test]
 fn a_full_sink_has_a_first_part_of_the_summary(rt: HostRuntime) -> Result<(), Fail> {
-    let (sink, is_done) = summary(&rt, 10)?;
-    assert!(rt; !is_done);
-    assert_eq!(rt; sink.faults(), 1);
-    assert!(rt; sink.written() == b"load 7\nrea".as_slice());
+    assert_eq!(rt; summary(rt.alloc(), 10, b"load 7\nrea")?, (false, 1, true));
     Ok(())
 }
