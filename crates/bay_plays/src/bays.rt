@@ -7,7 +7,6 @@ use block_store::{FailingStore, MemoryStore, Store};
 use raid_base::{Ask, Cell, Failed, HostNo, How, Mode, Note, Number, Reply, Request, RowNo};
 use slot_rules::row_of;
 use std::alloc::Global;
-use std::process::Abort;
 use std::test::Fail;
 
 const ROW: RowNo = RowNo(0);
@@ -35,11 +34,14 @@ fn reply<D: Store>(bay: &mut Bay<D>, host: u8, what: Request) -> Option<Reply> {
     Some(bay.handle(&ask).reply)
 }
 
-/// Asks these in turn, each of its host, and looks for these replies.
-fn check<D: Store>(rt: &impl Abort, bay: &mut Bay<D>, cases: &[(u8, Request, Reply)]) {
-    for (host, what, answer) in cases {
-        assert_eq!(rt; reply(bay, *host, *what), Some(*answer));
+/// How many of these are answered so, asked in turn, each of its host.
+fn answered<D: Store>(bay: &mut Bay<D>, cases: &[(u8, Request, Reply)]) -> usize {
+    for (place, (host, what, answer)) in cases.iter().enumerate() {
+        if reply(bay, *host, *what) != Some(*answer) {
+            return place;
+        }
     }
+    cases.len()
 }
 
 fn share(id: u64) -> Request {
@@ -150,7 +152,7 @@ fn one_slot_by_stamps(rt: HostRuntime) -> Result<(), Fail> {
             granted(Some(cell(41)), [34, 17, 17], 0),
         ),
     ];
-    check(&rt, &mut bay, &cases);
+    assert_eq!(rt; answered(&mut bay, &cases), cases.len());
     assert_eq!(rt; bay.room(), 12);
     assert_eq!(rt; bay.journal().len(), 8);
     Ok(())
@@ -171,7 +173,7 @@ fn one_slot_under_locks(rt: HostRuntime) -> Result<(), Fail> {
             granted(Some(cell(0)), [18, 0, 0], 0),
         ),
     ];
-    check(&rt, &mut bay, &cases);
+    assert_eq!(rt; answered(&mut bay, &cases), cases.len());
     Ok(())
 }
 
@@ -194,18 +196,34 @@ fn a_lost_device_is_fitted_and_mended(rt: HostRuntime) -> Result<(), Fail> {
         (1, put(33, 49, 42), Reply::Done),
         (2, share(66), granted(Some(cell(42)), [17, 49, 33], 1)),
     ];
-    check(&rt, &mut bay, &cases);
+    assert_eq!(rt; answered(&mut bay, &cases), cases.len());
     Ok(())
+}
+
+/// A bay whose store fails at its second, fourth and sixth call.
+fn make_failing(alloc: Global) -> Result<Bay<FailingStore>, Fail> {
+    let store = FailingStore::make(alloc, 1, vec![in alloc; 1, 3, 5]?)?;
+    match Bay::make(alloc, store, 1, Mode::Order, 3, 20) {
+        Ok(bay) => Ok(bay),
+        Err(_) => Err("no bay")?,
+    }
+}
+
+type Look = Result<Option<Cell>, Failed>;
+
+/// What two looks at the row show, and whether no note stands there.
+fn looked<D: Store>(bay: &mut Bay<D>) -> Option<(Look, Look, bool)> {
+    if bay.slots.rows() != 1 {
+        return None;
+    }
+    let first = bay.look(ROW);
+    let second = bay.look(ROW);
+    Some((first, second, bay.note(ROW).is_none()))
 }
 
 #[test]
 fn a_store_fails_at_each_call(rt: HostRuntime) -> Result<(), Fail> {
-    let alloc = rt.alloc();
-    let store = FailingStore::make(alloc, 1, vec![in alloc; 1, 3, 5]?)?;
-    let mut bay = match Bay::make(alloc, store, 1, Mode::Order, 3, 20) {
-        Ok(bay) => bay,
-        Err(_) => return Err("no bay")?,
-    };
+    let mut bay = make_failing(rt.alloc())?;
     let cases = [
         (1, claim(17, How::Plain), Reply::Fault),
         (
@@ -216,23 +234,31 @@ fn a_store_fails_at_each_call(rt: HostRuntime) -> Result<(), Fail> {
         (1, put(17, 17, 41), Reply::Fault),
         (1, put(17, 17, 41), Reply::Done),
     ];
-    check(&rt, &mut bay, &cases);
-    assert!(rt; bay.slots.rows() == 1);
-    assert_eq!(rt; bay.look(ROW), Err(Failed));
-    assert_eq!(rt; bay.look(ROW), Ok(Some(cell(41))));
-    assert_eq!(rt; bay.note(ROW), None);
+    assert_eq!(rt; answered(&mut bay, &cases), cases.len());
+    let shown = Some((Err(Failed), Ok(Some(cell(41))), true));
+    assert!(rt; looked(&mut bay) == shown);
     let (_, journal) = bay.close();
     assert_eq!(rt; journal.len(), 4);
     Ok(())
 }
 
+/// Whether a bay of two rows is refused over a store of one block.
+fn is_too_small(alloc: Global) -> Result<bool, Fail> {
+    let store = MemoryStore::make(alloc, 1)?;
+    let made = Bay::make(alloc, store, 2, Mode::Lock, 3, 1);
+    Ok(matches!(made, Err(BayFault::TooSmall(_))))
+}
+
+/// Whether a bay is refused over a store that fails at its second call.
+fn is_fault(alloc: Global) -> Result<bool, Fail> {
+    let store = FailingStore::make(alloc, 2, vec![in alloc; 1]?)?;
+    let made = Bay::make(alloc, store, 2, Mode::Lock, 3, 1);
+    Ok(matches!(made, Err(BayFault::Fault(_))))
+}
+
 #[test]
 fn a_bay_is_made_where_the_store_serves(rt: HostRuntime) -> Result<(), Fail> {
-    let alloc = rt.alloc();
-    let small = Bay::make(alloc, MemoryStore::make(alloc, 1)?, 2, Mode::Lock, 3, 1);
-    assert!(rt; matches!(small, Err(BayFault::TooSmall(_))));
-    let store = FailingStore::make(alloc, 2, vec![in alloc; 1]?)?;
-    let fault = Bay::make(alloc, store, 2, Mode::Lock, 3, 1);
-    assert!(rt; matches!(fault, Err(BayFault::Fault(_))));
+    assert!(rt; is_too_small(rt.alloc())?);
+    assert!(rt; is_fault(rt.alloc())?);
     Ok(())
 }

@@ -4,7 +4,6 @@ ghost use Rattle.slot_rules.specs.Serving.{IsAskFor};
 
 use raid_base::{Ask, Cell, HostNo, How, Note, Number, Reply, Request, RowNo};
 use slot_rules::{Slots, Verdict, row_of};
-use std::process::Abort;
 
 /// A request of a host at a moment, and what is answered to it.
 #[derive(Clone, Copy)]
@@ -125,18 +124,20 @@ fn answer(slots: &mut Slots, ask: &Ask) -> Option<Reply> {
     Some(slots.apply(ask, cell))
 }
 
-/// Asks step by step, and compares each answer.
-pub fn replay(rt: &impl Abort, slots: &mut Slots, steps: &[Exchange]) {
-    for step in steps {
+/// How many of these requests are answered so, asked step by step.
+pub fn answered(slots: &mut Slots, steps: &[Exchange]) -> usize {
+    for (place, step) in steps.iter().enumerate() {
         let ask = Ask {
             host: HostNo(step.host),
             clock: 0,
             moment: step.moment,
             what: step.what,
         };
-        let reply = answer(slots, &ask);
-        assert_eq!(rt; reply, Some(step.reply), "at moment {}", step.moment);
+        if answer(slots, &ask) != Some(step.reply) {
+            return place;
+        }
     }
+    steps.len()
 }
 
 pub fn step(host: u8, moment: u64, what: Request, reply: Reply) -> Exchange {

@@ -1,7 +1,7 @@
 //! One slot under worked sequences of requests.
 
 use crate::exchanges::{
-    CELL, claim, confirm, granted, missing, note, put, release, replay, share, step,
+    CELL, answered, claim, confirm, granted, missing, note, put, release, share, step,
 };
 use raid_base::{How, Mode, Number, Reply, Request};
 use slot_rules::Slots;
@@ -35,7 +35,7 @@ fn stamps_order_reads_and_writes(rt: HostRuntime) -> Result<(), Fail> {
         step(2, 10, release(50, None), Reply::Done),
         step(2, 11, release(50, None), Reply::NoNote { life: 0 }),
     ];
-    replay(&rt, &mut slots, &steps);
+    assert_eq!(rt; answered(&mut slots, &steps), steps.len());
     Ok(())
 }
 
@@ -73,7 +73,7 @@ fn locks_order_reads_and_writes(rt: HostRuntime) -> Result<(), Fail> {
             },
         ),
     ];
-    replay(&rt, &mut slots, &steps);
+    assert_eq!(rt; answered(&mut slots, &steps), steps.len());
     Ok(())
 }
 
@@ -109,7 +109,7 @@ fn a_fitted_device_is_blank_and_keeps_the_high_number(rt: HostRuntime) -> Result
             granted(17, 48, 32, 1, None),
         ),
     ];
-    replay(&rt, &mut slots, &steps);
+    assert_eq!(rt; answered(&mut slots, &steps), steps.len());
     assert_eq!(rt; slots.life(), 1);
     Ok(())
 }
@@ -156,6 +156,6 @@ fn a_seizure_hands_on_origin_and_mask(rt: HostRuntime) -> Result<(), Fail> {
         ),
         step(3, 9, put(3, 19), Reply::Done),
     ];
-    replay(&rt, &mut slots, &steps);
+    assert_eq!(rt; answered(&mut slots, &steps), steps.len());
     Ok(())
 }
