@@ -35,7 +35,8 @@ struct Failing {
     store: u32,
 }
 
-const NONE: Failing = Failing {
+/// No call fails.
+const NO_FAULT: Failing = Failing {
     source: NEVER,
     sink: NEVER,
     bay: 0,
@@ -114,14 +115,14 @@ fn check_whole(rt: &impl Abort, left: Left) {
 
 #[test]
 fn the_smallest_script_is_played(rt: HostRuntime) -> Result<(), Fail> {
-    check_whole(&rt, run(rt.alloc(), NONE)?);
+    check_whole(&rt, run(rt.alloc(), NO_FAULT)?);
     Ok(())
 }
 
 #[test]
 fn a_source_that_fails_at_any_call_ends_the_run(rt: HostRuntime) -> Result<(), Fail> {
     for source in [0, 1] {
-        let left = run(rt.alloc(), Failing { source, ..NONE })?;
+        let left = run(rt.alloc(), Failing { source, ..NO_FAULT })?;
         assert_eq!(rt; left.status, Status::ReadFault);
         assert_eq!(rt; left.printed, Some(0));
         assert!(rt; left.is_back && left.turns == 0);
@@ -145,7 +146,7 @@ fn is_done(rt: &impl Abort, left: Left, call: u32) -> bool {
 fn a_sink_that_fails_at_any_call_has_taken_a_first_part(rt: HostRuntime) -> Result<(), Fail> {
     let mut done = false;
     for sink in 0..100 {
-        let left = run(rt.alloc(), Failing { sink, ..NONE })?;
+        let left = run(rt.alloc(), Failing { sink, ..NO_FAULT })?;
         if is_done(&rt, left, sink) {
             done = true;
             break;
@@ -170,7 +171,11 @@ fn check_fault(rt: &impl Abort, left: Left, bay: u32, entries: [usize; 3], resul
 #[test]
 fn a_store_that_fails_before_or_after_the_play_is_named(rt: HostRuntime) -> Result<(), Fail> {
     for (bay, last) in [(0, 3), (1, 2), (2, 2)] {
-        let fails_at = |store| Failing { bay, store, ..NONE };
+        let fails_at = |store| Failing {
+            bay,
+            store,
+            ..NO_FAULT
+        };
         let before = run(rt.alloc(), fails_at(0))?;
         check_fault(&rt, before, bay, [0, 0, 0], 0);
         assert!(rt; before.journals == 0 && before.turns == 0);

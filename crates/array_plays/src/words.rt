@@ -93,9 +93,17 @@ fn each_status_has_its_exit_number(rt: HostRuntime) {
     }
 }
 
-/// What a call leaves: how it has ended, how many stores and turns there are, how many bytes of the report were printed, and
-/// how many of the script were not read.
-type Left = (Status, usize, usize, Option<usize>, usize);
+/// How a call has ended, and what it leaves.
+#[derive(Clone, Copy)]
+struct Left {
+    status: Status,
+    stores: usize,
+    turns: usize,
+    /// How many bytes of the report were printed, and none where something else was.
+    printed: Option<usize>,
+    /// How many bytes of the script were not read.
+    unread: usize,
+}
 
 /// A call with one word on the smallest script over three stores.
 fn call_with(alloc: Global, word: &str) -> Result<Left, Fail> {
@@ -107,33 +115,32 @@ fn call_with(alloc: Global, word: &str) -> Result<Left, Fail> {
         stores.push(MemoryStore::make(alloc, 1)?)?;
     }
     let outcome = array(alloc, words.as_slice(), &mut source, &mut sink, stores);
-    let printed = part_of_report(sink.written());
-    Ok((
-        outcome.status,
-        outcome.stores.len(),
-        outcome.turns.len(),
-        printed,
-        source.left().len(),
-    ))
+    Ok(Left {
+        status: outcome.status,
+        stores: outcome.stores.len(),
+        turns: outcome.turns.len(),
+        printed: part_of_report(sink.written()),
+        unread: source.left().len(),
+    })
 }
 
 #[test]
 fn the_word_sim_plays_the_script(rt: HostRuntime) -> Result<(), Fail> {
-    let (status, _, _, printed, left) = call_with(rt.alloc(), "sim")?;
-    assert_eq!(rt; status, Status::Done);
-    assert_eq!(rt; printed, Some(REPORT.len()));
-    assert_eq!(rt; left, 0);
+    let left = call_with(rt.alloc(), "sim")?;
+    assert_eq!(rt; left.status, Status::Done);
+    assert_eq!(rt; left.printed, Some(REPORT.len()));
+    assert_eq!(rt; left.unread, 0);
     Ok(())
 }
 
 #[test]
 fn other_words_touch_nothing(rt: HostRuntime) -> Result<(), Fail> {
-    for (word, end) in [("run", Status::NotYet), ("load", Status::Words)] {
-        let (status, stores, turns, printed, left) = call_with(rt.alloc(), word)?;
-        assert_eq!(rt; status, end);
-        assert!(rt; stores == 3 && turns == 0);
-        assert_eq!(rt; printed, Some(0));
-        assert_eq!(rt; left, SCRIPT.len());
+    for (word, status) in [("run", Status::NotYet), ("load", Status::Words)] {
+        let left = call_with(rt.alloc(), word)?;
+        assert_eq!(rt; left.status, status);
+        assert!(rt; left.stores == 3 && left.turns == 0);
+        assert_eq!(rt; left.printed, Some(0));
+        assert_eq!(rt; left.unread, SCRIPT.len());
     }
     Ok(())
 }
