@@ -31,7 +31,7 @@ struct Left {
 struct Failing {
     source: u32,
     sink: u32,
-    bay: u32,
+    bay: u8,
     store: u32,
 }
 
@@ -51,7 +51,7 @@ fn one(alloc: Global, number: u32) -> Result<Vec<u32>, NoMemory> {
 fn make_stores(alloc: Global, failing: Failing) -> Result<Vec<FailingStore>, Fail> {
     let mut stores = Vec::new(alloc);
     for bay in 0..4 {
-        let call = if bay == failing.bay {
+        let call = if bay == u32::from(failing.bay) {
             failing.store
         } else {
             NEVER
@@ -157,8 +157,8 @@ fn a_sink_that_fails_at_any_call_has_taken_a_first_part(rt: HostRuntime) -> Resu
 }
 
 /// Looks for the fault of a store before or after the play, with these numbers of entries, results and turns.
-fn check_fault(rt: &impl Abort, left: Left, bay: u32, entries: [usize; 3], results: usize) {
-    let bay = BayNo(bay as u8);
+fn check_fault(rt: &impl Abort, left: Left, bay: u8, entries: [usize; 3], results: usize) {
+    let bay = BayNo(bay);
     assert_eq!(rt; left.status, Status::StoreFault { bay });
     assert_eq!(rt; left.printed, Some(0));
     assert!(rt; left.is_back);

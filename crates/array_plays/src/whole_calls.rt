@@ -13,7 +13,12 @@ fn parity_after(alloc: Global, job: &str) -> Result<[u8; 64], Fail> {
     let script = script_of(alloc, STAMPS, &["host 1", job], &[])?;
     let (mut outcome, _) = call(alloc, script.as_str(), 1, &[])?;
     match outcome.stores.as_mut_slice() {
-        [_, _, _, _, parity, ..] if parity.blocks() > 0 => Ok(parity.read(RowNo(0))?),
+        [_, _, _, _, parity, ..] => {
+            if parity.blocks() == 0 {
+                return Err("no block")?;
+            }
+            Ok(parity.read(RowNo(0))?)
+        }
         _ => Err("no parity")?,
     }
 }
