@@ -155,6 +155,7 @@ fn check_play(rt: &impl Abort, alloc: Global, play: &Play) -> Result<(), Fail> {
     check_text(rt, alloc, &script, rows, play.failing, &report)
 }
 
+/// Plays these plays, and looks for the report of each.
 pub fn check(rt: &impl Abort, alloc: Global, plays: &[Play]) -> Result<(), Fail> {
     for play in plays {
         check_play(rt, alloc, play)?;
