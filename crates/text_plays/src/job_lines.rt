@@ -122,7 +122,7 @@ fn results_of(alloc: Global, host: HostNo, ends: &[JobEnd]) -> Result<Vec<JobRes
     for (job, end) in ends.iter().enumerate() {
         results.push(JobResult {
             host,
-            job: job as u32,
+            job: u32::try_from(job)?,
             end: *end,
         })?;
     }

@@ -73,7 +73,8 @@ fn sections_have_their_lines(rt: HostRuntime) -> Result<(), Fail> {
 
 /// What a report shows of a unit of a row, and none where there is no such unit.
 fn shown_of(view: &Final<'_>, row: u16, unit: u8) -> Option<Shown> {
-    if unit >= view.script.objects.devices() - 1 {
+    let script = view.script;
+    if unit >= script.objects.devices() - 1 {
         return None;
     }
     Some(shown(view, RowNo(row), unit))
