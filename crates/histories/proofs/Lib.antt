@@ -6,5 +6,6 @@ pub mod endings
 pub mod examples
 pub mod hands
 pub mod missing
+pub mod plays
 pub mod smallness
 pub mod steps

@@ -13,6 +13,7 @@ pub mod Leftovers
 pub mod Missing
 pub mod Operator
 pub mod Plain
+pub mod Played
 pub mod Progress
 pub mod Quotas
 pub mod Results

@@ -1,4 +1,5 @@
 //! Laws of histories, each the contract of a function without a body.
+ghost use Rattle.histories.specs.Played.{PlaysAreHistories, HistoriesArePlays};
 ghost use Rattle.histories.specs.HostLaws.{RequestsAreBounded, CausesAreMet};
 ghost use Rattle.histories.specs.Quotas.{RequestsKeepQuotas, TotalsCoverRequests};
 ghost use Rattle.histories.specs.Endings.{EndingsAreFilled};
@@ -8,6 +9,16 @@ ghost use Rattle.histories.specs.Hands.{HandsHoldAttempts, HandsKeepPhases};
 ghost use Rattle.histories.specs.Missing.{OneIsMissing};
 ghost use Rattle.histories.specs.Ids.{IdsAreApart};
 ghost use Rattle.histories.specs.Accesses.{AccessesAreCovered};
+
+/// Every play of turns, with whatever faults of the stores, is a history, and so is the simulator's.
+pub fn plays_are_histories()
+    ensures { PlaysAreHistories }
+{}
+
+/// Every history is the play of its own turns with the faults that it tells.
+pub fn histories_are_plays()
+    ensures { HistoriesArePlays }
+{}
 
 /// Along every history of a script each host has requests enough for what it has left to do: only hosts of the script
 /// ask, each at most as often as all allowed attempts of its jobs together, and no clock is above the number of calls.
