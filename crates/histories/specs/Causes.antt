@@ -1,11 +1,12 @@
 -- What stands behind the cause in a result.
-use Rattle.std.specs.Prelude.{◌≡◌, ◌≢◌, ◌⊎◌, ℕ, ◌≤◌, not, ◌||◌, Bool, false, List, Some, is_some, IsNone}
+use Rattle.std.specs.Prelude.{◌≡◌, ◌≢◌, ◌⊎◌, ℕ, ◌≤◌, not, ◌||◌, Bool, true, false, List, [], ◌∷◌, Some, is_some, IsNone}
 use Rattle.raid_base.specs.declared.numbers.HostNo.{HostNo}
 use Rattle.raid_base.specs.declared.numbers.BayNo.{BayNo}
 use Rattle.raid_base.specs.declared.numbers.RowNo.{RowNo}
 use Rattle.raid_base.specs.declared.numbers.Number.{Number}
 use Rattle.raid_base.specs.declared.messages.Mode.TheVariants.{Lock, Order}
-use Rattle.raid_base.specs.declared.messages.Request.TheVariants.{Confirm, Put, Release}
+use Rattle.raid_base.specs.declared.messages.How.TheVariants.{Mend}
+use Rattle.raid_base.specs.declared.messages.Request.TheVariants.{Claim, Confirm, Put, Release}
 use Rattle.raid_base.specs.declared.messages.Reply.{Reply}
 use Rattle.raid_base.specs.declared.messages.Reply.TheVariants as replies
 use Rattle.raid_base.specs.declared.jobs.Task.{Task}
@@ -34,17 +35,28 @@ IsReadOrWrite (tasks.Read object first count) = Unit {0}
 IsReadOrWrite (tasks.Write object first from count) = Unit {0}
 IsReadOrWrite _ = ⊥
 
+abbrev pub IsRead : Task → Type 0
+IsRead (tasks.Read object first count) = Unit {0}
+IsRead _ = ⊥
+
+-- which refuses it as Behind
+abbrev pub IsBehind : Script → Task → Call → Type 0
+IsBehind script task call = (script.mode ≡ Order) × IsReadOrWrite task × (floor : Number) × IsFloorFrom floor call
+
 abbrev pub IsMissingAt : BayNo → Call → Type 0
 IsMissingAt bay call = (call.bay ≡ bay) × IsMissing call
 
--- a slot of a rebuild is gone where it is missing, or has no cell on another bay than the target
-abbrev pub IsBare : BayNo → Call → Type 0
-IsBare bay call = (call.bay ≡ bay) × (grant : Grant) × (grant_of call.answer.reply ≡ Some grant) × IsNone grant.cell
+-- a slot is missing, with a floor that does not refuse as Behind
+abbrev pub IsLackingAt : Script → Task → BayNo → Call → Type 0
+IsLackingAt script task bay call = IsMissingAt bay call × ¬ (IsBehind script task call)
 
-abbrev pub IsGone : Script → HostNo → BayNo → Task → List Call → Type 0
-IsGone script host bay (tasks.Rebuild target) calls = Happened (IsMissingAt bay) calls ⊎ ((target ≢ bay) × Happened (IsBare bay) calls)
-IsGone script host bay (tasks.Recover row) calls = (host.0 ≢ 0) × (bay ≡ parity_bay script.n row) × Happened (IsMissingAt bay) calls
-IsGone script host bay _ calls = ⊥
+-- a rebuild's claim of a slot on this bay
+abbrev pub IsMendClaim : BayNo → Call → Type 0
+IsMendClaim bay call = (call.bay ≡ bay) × (row : RowNo) × (id : Number) × (call.ask.what ≡ Claim row id Mend 0 true)
+
+-- it was granted, and shows no cell
+abbrev pub IsBare : Call → Type 0
+IsBare call = (grant : Grant) × (grant_of call.answer.reply ≡ Some grant) × IsNone grant.cell
 
 -- a confirm of the row's parity with this reply
 abbrev pub IsConfirm : ℕ → RowNo → Call → Type 0
@@ -68,9 +80,28 @@ IsGranted n row call = IsClaim (parity_bay n row) row call × (grant : Grant) ×
 abbrev pub IsLacking : ℕ → RowNo → Call → Type 0
 IsLacking n row call = IsClaim (parity_bay n row) row call × IsMissing call
 
--- a parity that was granted is not held, or one that was missing is not
-abbrev pub IsChanged : ℕ → RowNo → List Call → Type 0
-IsChanged n row calls = HappenedAfter (IsHeldBadly n row) (IsGranted n row) calls ⊎ HappenedAfter (IsFound n row) (IsLacking n row) calls
+-- a slot of a rebuild is gone where its claim finds it missing, or without a cell on another bay than the target; and the
+-- parity of a recovery where its claim finds it missing, unless the host is the operator
+abbrev pub IsGone : Script → HostNo → BayNo → Task → List Call → Type 0
+IsGone script host bay (tasks.Rebuild target) calls =
+    Happened (λ call. IsMendClaim bay call × IsMissing call) calls ⊎ ((target ≢ bay) × Happened (λ call. IsMendClaim bay call × IsBare call) calls)
+IsGone script host bay (tasks.Recover row) calls = (host.0 ≢ 0) × (bay ≡ parity_bay script.n row) × Happened (IsLacking script.n row) calls
+IsGone script host bay _ calls = ⊥
+
+-- a reply that has a cause of its own, after these calls: a fault, a floor that is not below the id, or a second bay that is missing
+abbrev pub HasOwnCause : Script → Task → List Call → Call → Type 0
+HasOwnCause script task earlier call =
+    Answers replies.Fault call ⊎ (IsBehind script task call ⊎ (IsMissing call × (other : BayNo) × (other ≢ call.bay) × Happened (IsMissingAt other) earlier))
+
+-- a parity that was granted is not held, or one that was missing is not, by a reply without a cause of its own
+abbrev pub IsChange : Script → Task → RowNo → List Call → Call → Type 0
+IsChange script task row earlier call =
+    ¬ (HasOwnCause script task earlier call)
+    × ((IsHeldBadly script.n row call × Happened (IsGranted script.n row) earlier) ⊎ (IsFound script.n row call × Happened (IsLacking script.n row) earlier))
+
+abbrev pub IsChanged : Script → Task → RowNo → List Call → Type 0
+IsChanged script task row [] = ⊥
+IsChanged script task row (call ∷ calls) = IsChange script task row calls call ⊎ IsChanged script task row calls
 
 -- a request of this row that found no note
 abbrev pub IsUnnoted : Call → Type 0
@@ -89,10 +120,10 @@ IsCauseIn script host e (causes.Late above) = Happened (Answers (replies.Late ab
 IsCauseIn script host e (causes.Young note) = Happened (Answers (replies.Young note)) e.calls
 IsCauseIn script host e (causes.Behind floor) = (script.mode ≡ Order) × IsReadOrWrite e.job.task × Happened (IsFloorFrom floor) e.calls
 IsCauseIn script host e (causes.Fault bay) = Happened (λ call. (call.bay ≡ bay) × Answers replies.Fault call) e.calls
-IsCauseIn script host e (causes.Broken first second) = HappenedAfter (IsMissingAt second) (IsMissingAt first) e.calls × (first ≢ second)
+IsCauseIn script host e (causes.Broken first second) = HappenedAfter (IsLackingAt script e.job.task second) (IsMissingAt first) e.calls × (first ≢ second)
 IsCauseIn script host e (causes.Gone bay) = IsGone script host bay e.job.task e.calls
-IsCauseIn script host e (causes.Changed row) = IsChanged script.n row e.calls
-IsCauseIn script host e (causes.Released row) = (script.mode ≡ Lock) × Happened (IsReleaseIn row) e.calls
+IsCauseIn script host e (causes.Changed row) = IsChanged script e.job.task row e.calls
+IsCauseIn script host e (causes.Released row) = (script.mode ≡ Lock) × IsRead e.job.task × Happened (IsReleaseIn row) e.calls
 IsCauseIn script host e (causes.Seized row) = Happened (IsPutIn row) e.calls
 IsCauseIn script host e (causes.Spent seen) = IsNone (next_number host seen)
 IsCauseIn script host e causes.Quit = e.job.quit ≡ Some e.asked

@@ -1,6 +1,6 @@
 -- What stands behind a cause in the calls so far, and walks that keep these calls.
-use Rattle.std.proofs.Common.{◌≡◌, ◌≢◌, inl, inr, refl, sym, ap, subst, ◌∙◌, ℕ, ◌==◌, Bool, true, false, if◌then◌else◌, List, [], ◌∷◌, Option, Some, None, IfSome, Result, Ok, Err, option_map, unwrap_or, ok_or, arith}
-use Rattle.std.specs.Prelude.{IsNone}
+use Rattle.std.proofs.Common.{◌≡◌, ◌≢◌, inl, inr, refl, sym, ap, subst, ◌∙◌, ℕ, ◌≤◌, ◌==◌, Bool, true, false, if◌then◌else◌, List, [], ◌∷◌, Option, Some, None, IfSome, Result, Ok, Err, option_map, unwrap_or, ok_or, arith}
+use Rattle.std.specs.Prelude.{IsNone, nat_le}
 use Rattle.std.specs.List.{AllByRecursion}
 use Rattle.std.proofs.lemmas.Bool.{eq-eqb}
 use Rattle.std.proofs.lemmas.Bool.Decides.{nat_tests}
@@ -37,7 +37,8 @@ use Rattle.attempts.specs.Releases.{releasing, end_as, released_steps, refused_s
 use Rattle.script_text.specs.Script.{Script}
 use Rattle.histories.specs.Progress.{Ending}
 use Rattle.histories.specs.Calls.{Happened, HappenedAfter, id_of, Answers}
-use Rattle.histories.specs.Causes.{IsFloorFrom, IsReadOrWrite, IsMissingAt, IsGone, IsGranted, IsLacking, IsChanged, IsReleaseIn, IsPutIn, IsCauseIn}
+use Rattle.histories.specs.Causes.{IsFloorFrom, IsReadOrWrite, IsRead, IsBehind, IsMissingAt, IsLackingAt, IsGone, IsGranted, IsLacking, HasOwnCause, IsChanged, IsReleaseIn, IsPutIn, IsCauseIn}
+use Rattle.histories.specs.Torn.{IsMissing}
 
 -- the cause stands in these calls of an attempt of this task; that the host stops is no cause of an attempt
 abbrev pub Stands : Script → HostNo → Task → List Call → Cause → Type 0
@@ -46,10 +47,10 @@ Stands script host task calls (causes.Late above) = Happened (Answers (replies.L
 Stands script host task calls (causes.Young note) = Happened (Answers (replies.Young note)) calls
 Stands script host task calls (causes.Behind floor) = (script.mode ≡ Order) × IsReadOrWrite task × Happened (IsFloorFrom floor) calls
 Stands script host task calls (causes.Fault bay) = Happened (λ call. (call.bay ≡ bay) × Answers replies.Fault call) calls
-Stands script host task calls (causes.Broken first second) = HappenedAfter (IsMissingAt second) (IsMissingAt first) calls × (first ≢ second)
+Stands script host task calls (causes.Broken first second) = HappenedAfter (IsLackingAt script task second) (IsMissingAt first) calls × (first ≢ second)
 Stands script host task calls (causes.Gone bay) = IsGone script host bay task calls
-Stands script host task calls (causes.Changed row) = IsChanged script.n row calls
-Stands script host task calls (causes.Released row) = (script.mode ≡ Lock) × Happened (IsReleaseIn row) calls
+Stands script host task calls (causes.Changed row) = IsChanged script task row calls
+Stands script host task calls (causes.Released row) = (script.mode ≡ Lock) × IsRead task × Happened (IsReleaseIn row) calls
 Stands script host task calls (causes.Seized row) = Happened (IsPutIn row) calls
 Stands script host task calls (causes.Spent seen) = IsNone (next_number host seen)
 Stands script host task calls causes.Quit = ⊥
@@ -78,18 +79,48 @@ gone-more script host bay (tasks.Write object first from count) calls call h = a
 gone-more script host bay (tasks.Lose at) calls call h = absurd h
 gone-more script host bay (tasks.Fit at) calls call h = absurd h
 
-changed-more : (n : ℕ) (row : RowNo) (calls : List Call) (call : Call) → IsChanged n row calls → IsChanged n row (call ∷ calls)
-changed-more n row calls call (inl h) = inl (inr h)
-changed-more n row calls call (inr h) = inr (inr h)
-
 -- the bay that was missing, if any, was so in these calls
-abbrev pub MissingTold : Option BayNo → List Call → Type 0
-MissingTold None calls = Unit {0}
-MissingTold (Some bay) calls = Happened (IsMissingAt bay) calls
+abbrev WasMissing : Option BayNo → List Call → Type 0
+WasMissing None calls = Unit {0}
+WasMissing (Some bay) calls = Happened (IsMissingAt bay) calls
 
-pub missing-more : (o : Option BayNo) (calls : List Call) (call : Call) → MissingTold o calls → MissingTold o (call ∷ calls)
-missing-more None calls call h = tt
-missing-more (Some bay) calls call h = inr h
+-- and no other was
+abbrev pub MissingTold : Option BayNo → List Call → Type 0
+MissingTold o calls = WasMissing o calls × ((bay : BayNo) → Happened (IsMissingAt bay) calls → o ≡ Some bay)
+
+pub none-missing : MissingTold None []
+none-missing = (tt, λ bay h. absurd h)
+
+was-more : (o : Option BayNo) (calls : List Call) (call : Call) → WasMissing o calls → WasMissing o (call ∷ calls)
+was-more None calls call h = tt
+was-more (Some bay) calls call h = inr h
+
+pub missing-more : (o : Option BayNo) (calls : List Call) (call : Call) → (IsMissing call → ⊥) → MissingTold o calls → MissingTold o (call ∷ calls)
+missing-more o calls call there h = (was-more o calls call h.0, only) where
+  only : (bay : BayNo) → Happened (IsMissingAt bay) (call ∷ calls) → o ≡ Some bay
+  only bay (inl m) = absurd (there m.1)
+  only bay (inr m) = h.1 bay m
+
+-- the same bay once more
+pub missing-again : (o : Option BayNo) (calls : List Call) (call : Call) → o ≡ Some call.bay → MissingTold o calls → MissingTold o (call ∷ calls)
+missing-again o calls call same h = (was-more o calls call h.0, only) where
+  only : (bay : BayNo) → Happened (IsMissingAt bay) (call ∷ calls) → o ≡ Some bay
+  only bay (inl m) = same ∙ ap (λ (b : BayNo). Some b) m.0
+  only bay (inr m) = h.1 bay m
+
+pub grant-there : (call : Call) (grant : Grant) → grant_of call.answer.reply ≡ Some grant → IsMissing call → ⊥
+grant-there call grant e miss = let none : grant_of call.answer.reply ≡ None = ap grant_of miss.1 in cc
+
+-- that bay is this one, where no second bay is missing
+pub broken-agrees : (missing : Option BayNo) (at first : BayNo) → broken missing at ≡ None → missing ≡ Some first → first ≡ at
+broken-agrees None at first e is = cc
+broken-agrees (Some other) at first e is =
+    let same : other ≡ first = cc in
+    sym same ∙ by (other.0 == at.0) refl e
+  where
+    by : (b : Bool) → (other.0 == at.0) ≡ b → (if b then None else Some (causes.Broken other at)) ≡ None → other ≡ at
+    by true t e = let same : other.0 ≡ at.0 = grind (arith, nat_tests) in ap (λ (k : ℕ). record { 0 = k }) same
+    by false t e = cc
 
 -- and so was the claim of a row's parity
 abbrev pub ParityTold : ℕ → RowNo → Option Grant → List Call → Type 0
@@ -99,6 +130,11 @@ ParityTold n row (Some grant) calls = Happened (IsGranted n row) calls
 pub parity-more : (n : ℕ) (row : RowNo) (o : Option Grant) (calls : List Call) (call : Call) → ParityTold n row o calls → ParityTold n row o (call ∷ calls)
 parity-more n row None calls call h = inr h
 parity-more n row (Some grant) calls call h = inr h
+
+pub lacking-missing : (n : ℕ) (row : RowNo) (calls : List Call) → Happened (IsLacking n row) calls → Happened (IsMissingAt (parity_bay n row)) calls
+lacking-missing n row [] h = absurd h
+lacking-missing n row (call ∷ calls) (inl l) = inl (l.0.0, l.1)
+lacking-missing n row (call ∷ calls) (inr h) = inr (lacking-missing n row calls h)
 
 -- the call answers this errand, by a reply that fits
 pub record IsReply (errand : Errand) (call : Call) : Type 0 where
@@ -200,29 +236,43 @@ claim-takes row id Plain mask want = record { held = λ cell. refl; unnoted = λ
 claim-takes row id Seize mask want = record { held = λ cell. refl; unnoted = λ life. refl; done = refl; emptied = refl; fitted = refl }
 claim-takes row id Mend mask want = record { held = λ cell. refl; unnoted = λ life. refl; done = refl; emptied = refl; fitted = refl }
 
--- a reply grants, or the slot is missing
-abbrev pub GrantOrGap : Reply → Option Grant → Type 0
-GrantOrGap r (Some grant) = grant_of r ≡ Some grant
-GrantOrGap r None = (floor : Number) × (r ≡ replies.Missing floor)
+-- a reply grants, or the slot is missing on no second bay
+abbrev pub GrantOrGap : Option BayNo → BayNo → Reply → Option Grant → Type 0
+GrantOrGap missing bay r (Some grant) = grant_of r ≡ Some grant
+GrantOrGap missing bay r None = (floor : Number) × (r ≡ replies.Missing floor) × (broken missing bay ≡ None)
 
-unless-some : {X : Type 0} (P : X → Type 0) (o : Option Cause) (x : X) → P x → IfSome (unless o x) P
-unless-some P None x p = p
-unless-some P (Some cause) x p = tt
+gap-told : (least : Option Number) (missing : Option BayNo) (bay : BayNo) (floor : Number)
+    → IfSome (unless (refusal least missing bay (replies.Missing floor)) None) (GrantOrGap missing bay (replies.Missing floor))
+gap-told least missing bay floor = by (is_behind least floor) where
+  unbroken : (o : Option Cause) → broken missing bay ≡ o → IfSome (unless o None) (GrantOrGap missing bay (replies.Missing floor))
+  unbroken None e = (floor, refl, e)
+  unbroken (Some cause) e = tt
+
+  by : (b : Bool) → IfSome (unless (if b then Some (causes.Behind floor) else broken missing bay) None) (GrantOrGap missing bay (replies.Missing floor))
+  by true = tt
+  by false = unbroken (broken missing bay) refl
 
 pub take-told : (what : Request) → IsTake what → (least : Option Number) (missing : Option BayNo) (bay : BayNo) (r : Reply) → fits what r ≡ true
-    → IfSome (unless (refusal least missing bay r) (grant_of r)) (GrantOrGap r)
+    → IfSome (unless (refusal least missing bay r) (grant_of r)) (GrantOrGap missing bay r)
 take-told what t least missing bay (replies.Granted cell read_no write_no last life seized) fit = refl
 take-told what t least missing bay (replies.Busy holder) fit = tt
 take-told what t least missing bay (replies.Late above) fit = tt
 take-told what t least missing bay (replies.Young note) fit = tt
-take-told what t least missing bay (replies.Missing floor) fit =
-    unless-some (GrantOrGap (replies.Missing floor)) (refusal least missing bay (replies.Missing floor)) None (floor, refl)
+take-told what t least missing bay (replies.Missing floor) fit = gap-told least missing bay floor
 take-told what t least missing bay (replies.Held cell) fit = let h : fits what (replies.Held cell) ≡ false = t.held cell in cc
 take-told what t least missing bay (replies.NoNote life) fit = let h : fits what (replies.NoNote life) ≡ false = t.unnoted life in cc
 take-told what t least missing bay replies.Done fit = let h : fits what replies.Done ≡ false = t.done in cc
 take-told what t least missing bay replies.Fault fit = tt
 take-told what t least missing bay replies.Emptied fit = let h : fits what replies.Emptied ≡ false = t.emptied in cc
 take-told what t least missing bay replies.Fitted fit = let h : fits what replies.Fitted ≡ false = t.fitted in cc
+
+-- a slot that is missing and refuses nothing: its floor is below, and no second bay is missing
+unrefused-gap : (least : Option Number) (missing : Option BayNo) (bay : BayNo) (floor : Number) → refusal least missing bay (replies.Missing floor) ≡ None
+    → (is_behind least floor ≡ false) × (broken missing bay ≡ None)
+unrefused-gap least missing bay floor none = by (is_behind least floor) refl none where
+  by : (b : Bool) → is_behind least floor ≡ b → (if b then Some (causes.Behind floor) else broken missing bay) ≡ None → (is_behind least floor ≡ false) × (broken missing bay ≡ None)
+  by true e none = cc
+  by false e none = (e, none)
 
 module _ (script : Script) (host : HostNo) (task : Task) where
   -- a cause stands under more calls
@@ -234,8 +284,8 @@ module _ (script : Script) (host : HostNo) (task : Task) where
   stands-more (causes.Fault bay) calls call s = inr s
   stands-more (causes.Broken first second) calls call s = (inr s.0, s.1)
   stands-more (causes.Gone bay) calls call s = gone-more script host bay task calls call s
-  stands-more (causes.Changed row) calls call s = changed-more script.n row calls call s
-  stands-more (causes.Released row) calls call s = (s.0, inr s.1)
+  stands-more (causes.Changed row) calls call s = inr s
+  stands-more (causes.Released row) calls call s = (s.0, s.1, inr s.2)
   stands-more (causes.Seized row) calls call s = inr s
   stands-more (causes.Spent seen) calls call s = s
   stands-more causes.Quit calls call s = s
@@ -263,26 +313,46 @@ module _ (script : Script) (host : HostNo) (task : Task) where
   refuses es cause calls s = releases-caused (ends.Refused cause) (λ cs call i. stands-more cause cs call i) es calls s
 
   -- Refusals. A floor counts for reads and writes under stamps, from the id of the request on
-  abbrev pub BehindRightly : Option Number → Request → Type 0
-  BehindRightly least what = (id : Number) → least ≡ Some id → (script.mode ≡ Order) × IsReadOrWrite task × (id_of what ≡ Some id)
+  pub record BehindRightly (least : Option Number) (what : Request) : Type 0 where
+    pub counts : (id : Number) → least ≡ Some id → (script.mode ≡ Order) × IsReadOrWrite task × (id_of what ≡ Some id)
+    pub covers : script.mode ≡ Order → IsReadOrWrite task → (id : Number) × (least ≡ Some id) × (id_of what ≡ Some id)
 
-  pub never-behind : (what : Request) → BehindRightly None what
-  never-behind what id e = cc
+  pub never-behind : (IsReadOrWrite task → ⊥) → (what : Request) → BehindRightly None what
+  never-behind other what = record { counts = λ id e. cc; covers = λ order plain. absurd (other plain) }
 
   pub behind-rightly : (mode : Mode) → script.mode ≡ mode → IsReadOrWrite task → (id : Number) (what : Request) → id_of what ≡ Some id → BehindRightly (behind_from mode id) what
-  behind-rightly Order same plain id what of least e = (same, plain, of ∙ e)
-  behind-rightly Lock same plain id what of least e = cc
+  behind-rightly Order same plain id what of = record { counts = λ least e. (same, plain, of ∙ e); covers = λ order plain. (id, refl, of) }
+  behind-rightly Lock same plain id what of = record { counts = λ least e. cc; covers = λ order plain. absurd (let both : Lock ≡ Order = sym same ∙ order in cc) }
 
   abbrev Refused : List Call → Option Cause → Type 0
   Refused calls o = IfSome o (Stands script host task calls)
 
   module _ (calls : List Call) (e : Errand) (call : Call) (is : IsReply e call) where
-    broken-stands : (floor : Number) → call.answer.reply ≡ replies.Missing floor → (missing : Option BayNo) → MissingTold missing calls → Refused (call ∷ calls) (broken missing e.bay)
-    broken-stands floor same None m = tt
-    broken-stands floor same (Some first) m = by (first.0 == e.bay.0) refl where
+    not-behind : (floor : Number) → call.answer.reply ≡ replies.Missing floor → (least : Option Number) → BehindRightly least e.request → is_behind least floor ≡ false
+        → IsBehind script task call → ⊥
+    not-behind floor same least b h (order, plain, other, told) = absurd (grind (arith, nat_tests)) where
+      floors : other ≡ floor
+      floors = let both : replies.Missing other ≡ replies.Missing floor = sym told.0 ∙ same in cc
+
+      covered : (id : Number) × (least ≡ Some id) × (id_of e.request ≡ Some id)
+      covered = b.covers order plain
+
+      ids : told.1 ≡ covered.0
+      ids = let both : Some told.1 ≡ Some covered.0 = sym told.2 ∙ ap id_of (what-asked is) ∙ covered.2 in cc
+
+      below : nat_le covered.0.0 floor.0 ≡ false
+      below = sym (ap (λ (o : Option Number). is_behind o floor) covered.1) ∙ h
+
+      above : covered.0.0 ≤ floor.0
+      above = subst (λ (f : Number). covered.0.0 ≤ f.0) floors (subst (λ (i : Number). i.0 ≤ other.0) ids told.3)
+
+    broken-stands : (floor : Number) → call.answer.reply ≡ replies.Missing floor → (IsBehind script task call → ⊥) → (missing : Option BayNo) → MissingTold missing calls
+        → Refused (call ∷ calls) (broken missing e.bay)
+    broken-stands floor same not None m = tt
+    broken-stands floor same not (Some first) m = by (first.0 == e.bay.0) refl where
       by : (b : Bool) → (first.0 == e.bay.0) ≡ b → Refused (call ∷ calls) (if b then None else Some (causes.Broken first e.bay))
       by true t = tt
-      by false f = (inl ((bay-asked is, (floor, same)), m), differ) where
+      by false f = (inl (((bay-asked is, (floor, same)), not), m.0), differ) where
         differ : first ≡ e.bay → ⊥
         differ eq = let t : (first.0 == e.bay.0) ≡ true = eq-eqb first.0 e.bay.0 (ap (λ (b : BayNo). b.0) eq) in cc
 
@@ -290,8 +360,21 @@ module _ (script : Script) (host : HostNo) (task : Task) where
         → Stands script host task (call ∷ calls) (causes.Behind floor)
     floor-stands floor same None b h = cc
     floor-stands floor same (Some id) b h =
-        let rightly = b id refl in
+        let rightly = b.counts id refl in
         (rightly.0, rightly.1, inl (same, id, ap id_of (what-asked is) ∙ rightly.2, grind (arith, nat_tests)))
+
+    -- a reply that refuses nothing has no cause of its own
+    pub unrefused-plain : (least : Option Number) (missing : Option BayNo) → BehindRightly least e.request → MissingTold missing calls
+        → refusal least missing e.bay call.answer.reply ≡ None → HasOwnCause script task calls call → ⊥
+    unrefused-plain least missing b m none (inl fault) = let some : refusal least missing e.bay call.answer.reply ≡ Some (causes.Fault e.bay) = ap (refusal least missing e.bay) fault in cc
+    unrefused-plain least missing b m none (inr (inl behind)) =
+        let told = behind.3 in
+        let gap = unrefused-gap least missing e.bay behind.2 (sym (ap (refusal least missing e.bay) told.0) ∙ none) in
+        not-behind behind.2 told.0 least b gap.0 behind
+    unrefused-plain least missing b m none (inr (inr second)) =
+        let miss = second.0 in
+        let gap = unrefused-gap least missing e.bay miss.0 (sym (ap (refusal least missing e.bay) miss.1) ∙ none) in
+        second.2 (broken-agrees missing e.bay second.1 gap.1 (m.1 second.1 second.3) ∙ sym (bay-asked is))
 
     pub refusal-stands : (least : Option Number) (missing : Option BayNo) → BehindRightly least e.request → MissingTold missing calls
         → Refused (call ∷ calls) (refusal least missing e.bay call.answer.reply)
@@ -299,7 +382,7 @@ module _ (script : Script) (host : HostNo) (task : Task) where
       lacks : (floor : Number) → call.answer.reply ≡ replies.Missing floor → (t : Bool) → is_behind least floor ≡ t
           → Refused (call ∷ calls) (if t then Some (causes.Behind floor) else broken missing e.bay)
       lacks floor same true h = floor-stands floor same least b h
-      lacks floor same false h = broken-stands floor same missing m
+      lacks floor same false h = broken-stands floor same (not-behind floor same least b h) missing m
 
       by : (r : Reply) → call.answer.reply ≡ r → Refused (call ∷ calls) (refusal least missing e.bay r)
       by (replies.Granted cell read_no write_no last life seized) same = tt
@@ -328,10 +411,13 @@ module _ (script : Script) (host : HostNo) (task : Task) where
     pub take : IsTake e.request
     pub rightly : BehindRightly least e.request
 
-  with-missing : (keep : Option Grant → Row → Row) (taken : Taken) (bay : BayNo) (calls : List Call) (call : Call) → call.bay ≡ bay
-      → (o : Option Grant) → GrantOrGap call.answer.reply o → MissingTold taken.missing calls → MissingTold (with_grant keep taken bay o).missing (call ∷ calls)
-  with-missing keep taken bay calls call at (Some grant) g m = missing-more taken.missing calls call m
-  with-missing keep taken bay calls call at None g m = inl (at, g)
+  pub with-missing : (keep : Option Grant → Row → Row) (taken : Taken) (bay : BayNo) (calls : List Call) (call : Call) → call.bay ≡ bay
+      → (o : Option Grant) → GrantOrGap taken.missing bay call.answer.reply o → MissingTold taken.missing calls → MissingTold (with_grant keep taken bay o).missing (call ∷ calls)
+  with-missing keep taken bay calls call at (Some grant) g m = missing-more taken.missing calls call (grant-there call grant g) m
+  with-missing keep taken bay calls call at None g m = (inl (at, (g.0, g.1)), only) where
+    only : (b : BayNo) → Happened (IsMissingAt b) (call ∷ calls) → Some bay ≡ Some b
+    only b (inl x) = ap (λ (c : BayNo). Some c) (sym at ∙ x.0)
+    only b (inr h) = ap (λ (c : BayNo). Some c) (sym (broken-agrees taken.missing bay b g.2 (m.1 b h)))
 
   module _ (least : Option Number) (f : Walk Taken → Steps Finish)
       (off : (calls : List Call) (taken : Taken) (e : Errand) (r : Reply) → Stands script host task calls (why least taken e r) → Caused host FinishStands calls (f (Stopped taken e r))) where
@@ -350,7 +436,7 @@ module _ (script : Script) (host : HostNo) (task : Task) where
     caused-takes keep K more on es calls taken all m k =
         caused-walk host FinishStands (Takes least) (λ cs t. MissingTold t.missing cs × K cs t) (taking least keep) f (λ t. tt) kept
         (λ cs t i. on cs t i.0 i.1) (λ e cs t call p i is stop. stop-stands keep cs t e call p is i.0 stop) es calls taken all (m, k) where
-          given : (e : Errand) (cs : List Call) (t : Taken) (call : Call) → call.bay ≡ e.bay → MissingTold t.missing cs → K cs t → (o : Option (Option Grant)) → IfSome o (GrantOrGap call.answer.reply)
+          given : (e : Errand) (cs : List Call) (t : Taken) (call : Call) → call.bay ≡ e.bay → MissingTold t.missing cs → K cs t → (o : Option (Option Grant)) → IfSome o (GrantOrGap t.missing e.bay call.answer.reply)
               → IfSome (option_map (with_grant keep t e.bay) o) (λ t. MissingTold t.missing (call ∷ cs) × K (call ∷ cs) t)
           given e cs t call at m k None g = tt
           given e cs t call at m k (Some o) g = (with-missing keep t e.bay cs call at o g m, more cs t call e.bay o k)
@@ -363,9 +449,9 @@ module _ (script : Script) (host : HostNo) (task : Task) where
 
     -- the claim of a row's parity
     parity-told : (row : RowNo) (id : Number) (how : How) (mask : ℕ) (want : Bool) (calls : List Call) (call : Call) → IsReply (claim id row how mask want (parity_bay script.n row)) call
-        → (o : Option Grant) → GrantOrGap call.answer.reply o → ParityTold script.n row o (call ∷ calls)
-    parity-told row id how mask want calls call is (Some grant) g = inl ((bay-asked is, id, how, mask, want, what-asked is), grant, g)
-    parity-told row id how mask want calls call is None g = inl ((bay-asked is, id, how, mask, want, what-asked is), g)
+        → (missing : Option BayNo) (o : Option Grant) → GrantOrGap missing (parity_bay script.n row) call.answer.reply o → ParityTold script.n row o (call ∷ calls)
+    parity-told row id how mask want calls call is missing (Some grant) g = inl ((bay-asked is, id, how, mask, want, what-asked is), grant, g)
+    parity-told row id how mask want calls call is missing None g = inl ((bay-asked is, id, how, mask, want, what-asked is), (g.0, g.1))
 
     pub caused-parity : (row : RowNo) (id : Number) (how : How) (mask : ℕ) (want : Bool) (calls : List Call) (taken : Taken)
         → BehindRightly least (Claim row id how mask want) → MissingTold taken.missing calls
@@ -380,11 +466,11 @@ module _ (script : Script) (host : HostNo) (task : Task) where
           e : Errand
           e = claim id row how mask want (parity_bay script.n row)
 
-          given : (call : Call) → IsReply e call → (o : Option (Option Grant)) → IfSome o (GrantOrGap call.answer.reply)
+          given : (call : Call) → IsReply e call → (o : Option (Option Grant)) → IfSome o (GrantOrGap taken.missing e.bay call.answer.reply)
               → IfSome (option_map (with_grant with_parity taken e.bay) o) (λ t. Caused host FinishStands (call ∷ calls) (f (Through t)))
           given call is None g = tt
           given call is (Some o) g =
-              on call o (with-missing with_parity taken (parity_bay script.n row) calls call (bay-asked is) o g m) (parity-told row id how mask want calls call is o g)
+              on call o (with-missing with_parity taken (parity_bay script.n row) calls call (bay-asked is) o g m) (parity-told row id how mask want calls call is taken.missing o g)
 
   pub shares-take : (least : Option Number) (id : Number) (row : RowNo) → BehindRightly least (Share row id true) → (bays : List BayNo) → AllByRecursion (Takes least) (shares id row bays)
   shares-take least id row b [] = tt

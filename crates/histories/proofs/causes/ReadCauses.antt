@@ -17,6 +17,7 @@ use Rattle.raid_base.specs.declared.messages.Call.{Call}
 use Rattle.raid_base.specs.declared.jobs.Cause.TheVariants as causes
 use Rattle.raid_base.specs.declared.jobs.RowPart.{RowPart}
 use Rattle.raid_base.specs.declared.jobs.Task.{Task}
+use Rattle.raid_base.specs.declared.jobs.Task.TheVariants as tasks
 use Rattle.raid_base.specs.Fits.{fits, fits_release}
 use Rattle.raid_base.specs.Numbers.{draw}
 use Rattle.raid_base.specs.Replies.{is_done}
@@ -29,8 +30,17 @@ use Rattle.attempts.proofs.RoomLemmas.{all-append}
 use Rattle.script_text.specs.Script.{Script}
 use Rattle.histories.specs.Progress.{access}
 use Rattle.histories.specs.Calls.{Happened}
-use Rattle.histories.specs.Causes.{IsReadOrWrite, IsReleaseIn}
-use Rattle.histories.proofs.causes.CauseLemmas.{Stands, IsReply, what-asked, Caused, caused-walk, caused-draw, some-none, MissingTold, FinishStands, refuses, BehindRightly, behind-rightly, caused-takes, shares-take}
+use Rattle.histories.specs.Causes.{IsReadOrWrite, IsRead, IsReleaseIn}
+use Rattle.histories.proofs.causes.CauseLemmas.{Stands, IsReply, what-asked, Caused, caused-walk, caused-draw, some-none, MissingTold, none-missing, FinishStands, refuses, BehindRightly, behind-rightly, caused-takes, shares-take}
+
+-- a read is a read or a write
+read-plain : (task : Task) → IsRead task → IsReadOrWrite task
+read-plain (tasks.Read object first count) reads = tt
+read-plain (tasks.Write object first from count) reads = absurd reads
+read-plain (tasks.Recover row) reads = absurd reads
+read-plain (tasks.Rebuild bay) reads = absurd reads
+read-plain (tasks.Lose bay) reads = absurd reads
+read-plain (tasks.Fit bay) reads = absurd reads
 
 -- a release with a number
 abbrev IsNumbered : Errand → Type 0
@@ -76,9 +86,12 @@ are-numbered : (row : RowNo) (id n : Number) (bays : List BayNo) → AllByRecurs
 are-numbered row id n [] = tt
 are-numbered row id n (bay ∷ bays) = ((row, id, n, refl), are-numbered row id n bays)
 
-module _ (script : Script) (host : HostNo) (task : Task) (plain : IsReadOrWrite task) (id : Number) (parts : List RowPart) (blocks : List (List ℕ)) where
+module _ (script : Script) (host : HostNo) (task : Task) (reads : IsRead task) (id : Number) (parts : List RowPart) (blocks : List (List ℕ)) where
   abbrev a : Access
   a = access script id parts blocks
+
+  plain : IsReadOrWrite task
+  plain = read-plain task reads
 
   abbrev Ending : List Call → Finish → Type 0
   Ending = FinishStands script host task
@@ -97,7 +110,7 @@ module _ (script : Script) (host : HostNo) (task : Task) (plain : IsReadOrWrite 
       (numbered_releases a n rows) calls None (all-numbered n rows) tt where
         ended : (cs : List Call) (o : Option RowNo) → ReaderGone cs o → Caused host Ending cs (read_freed a n rows (Through o))
         ended cs None g = tt
-        ended cs (Some row) g = (lock, g)
+        ended cs (Some row) g = (lock, reads, g)
 
   draws : script.mode ≡ Lock → (rows : List Row) (calls : List Call) (seen : Number) → Caused host Ending calls (read_drawn a rows (draw host seen))
   draws lock rows calls seen =
@@ -143,4 +156,4 @@ module _ (script : Script) (host : HostNo) (task : Task) (plain : IsReadOrWrite 
       part.row (bays_of script.n part.row (units_in script.n part.mask)) calls (begun part done) missed
 
   pub reads_caused : Caused host Ending [] (read_steps a)
-  reads_caused = rows-caused parts [] no_rows tt
+  reads_caused = rows-caused parts [] no_rows none-missing

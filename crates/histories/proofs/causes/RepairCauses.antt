@@ -1,5 +1,5 @@
 -- The causes of rebuilds and recoveries.
-use Rattle.std.proofs.Common.{◌≡◌, inl, inr, refl, sym, ap, ℕ, ◌==◌, Bool, true, false, if◌then◌else◌, not, ◌&&◌, List, [], ◌∷◌, ◌++◌, Option, Some, None, IfSome, is_none, option_map}
+use Rattle.std.proofs.Common.{◌≡◌, inl, inr, refl, sym, ap, subst, ◌∙◌, ℕ, ◌==◌, Bool, true, false, if◌then◌else◌, not, ◌&&◌, List, [], ◌∷◌, ◌++◌, Option, Some, None, IfSome, is_none, option_map}
 use Rattle.std.specs.Prelude.{is_some}
 use Rattle.std.specs.List.{AllByRecursion}
 use Rattle.std.proofs.lemmas.Bool.{eq-eqb}
@@ -9,6 +9,7 @@ use Rattle.raid_base.specs.declared.numbers.RowNo.{RowNo}
 use Rattle.raid_base.specs.declared.numbers.Number.{Number}
 use Rattle.raid_base.specs.declared.cells.Cell.{Cell}
 use Rattle.raid_base.specs.declared.messages.How.TheVariants.{Mend, Seize}
+use Rattle.raid_base.specs.declared.messages.Request.{Request}
 use Rattle.raid_base.specs.declared.messages.Request.TheVariants.{Claim}
 use Rattle.raid_base.specs.declared.messages.Reply.{Reply}
 use Rattle.raid_base.specs.declared.messages.Reply.TheVariants as replies
@@ -35,8 +36,8 @@ use Rattle.attempts.specs.Mending.{is_at, with_hold, good_grant, hold_of, mendin
 use Rattle.attempts.specs.Recovery.{whole_part, unseized_data, unseized_parity, granted_data, give_back, recover_refused, Verdict, Leaves, Sums, verdict, recovered_parity, recover_putting, closing, recover_put, recover_by, recover_drawn, recover_confirmed, is_as_before, stays_unless, stays, recover_confirming, units_seized, seize_units, parity_seized, recover_steps}
 use Rattle.script_text.specs.Script.{Script}
 use Rattle.histories.specs.Calls.{Happened}
-use Rattle.histories.specs.Causes.{IsMissingAt, IsGranted, is_held_well, IsHeldBadly}
-use Rattle.histories.proofs.causes.CauseLemmas.{Stands, IsReply, bay-asked, what-asked, IsTake, Caused, caused-go, caused-walk, caused-one, caused-draw, claim-takes, MissingTold, ParityTold, parity-more, passed, any-errands, FinishStands, releases-caused, refuses, never-behind, refusal-stands, else-stands, caused-takes, caused-parity, claims-take}
+use Rattle.histories.specs.Causes.{IsMendClaim, IsGranted, IsLacking, is_held_well, IsHeldBadly, HasOwnCause}
+use Rattle.histories.proofs.causes.CauseLemmas.{Stands, IsReply, bay-asked, what-asked, IsTake, Caused, caused-go, caused-walk, caused-one, caused-draw, claim-takes, MissingTold, none-missing, missing-more, grant-there, ParityTold, parity-more, passed, any-errands, FinishStands, releases-caused, refuses, BehindRightly, never-behind, refusal-stands, unrefused-plain, else-stands, caused-takes, caused-parity, claims-take}
 
 -- a put that was not done
 module _ (script : Script) (host : HostNo) (task : Task) (row : RowNo) (id n : Number) (cell : Cell) (bay : BayNo) where
@@ -92,6 +93,9 @@ module _ (script : Script) (host : HostNo) (target : BayNo) (id : Number) (row :
   abbrev CauseStands : List Call → Cause → Type 0
   CauseStands = Stands script host (tasks.Rebuild target)
 
+  mend-floor : (what : Request) → BehindRightly script host (tasks.Rebuild target) None what
+  mend-floor what = never-behind script host (tasks.Rebuild target) (λ plain. plain) what
+
   mended : (es : List Errand) (calls : List Call) → Caused host Ending calls (released_steps es ends.Mended)
   mended es calls = releases-caused script host (tasks.Rebuild target) ends.Mended (λ calls call i. tt) es calls tt
 
@@ -116,8 +120,8 @@ module _ (script : Script) (host : HostNo) (target : BayNo) (id : Number) (row :
   abbrev mend_confirm : Errand
   mend_confirm = confirm id row false (parity_bay script.n row)
 
-  mend-confirms : (holds : List Hold) (calls : List Call) → Happened (IsGranted script.n row) calls → Caused host Ending calls (mend_claimed m (Through holds))
-  mend-confirms holds calls granted = caused-one host Ending mend_confirming (mend_confirmed m holds) mend_confirm calls tt tt on off where
+  mend-confirms : (holds : List Hold) (calls : List Call) → MissingTold None calls → Happened (IsGranted script.n row) calls → Caused host Ending calls (mend_claimed m (Through holds))
+  mend-confirms holds calls missed granted = caused-one host Ending mend_confirming (mend_confirmed m holds) mend_confirm calls tt tt on off where
     on : (call : Call) → IsReply mend_confirm call → IfSome (mend_confirming.step tt mend_confirm call.answer.reply) (λ u. Caused host Ending (call ∷ calls) (mend_confirmed m holds (Through u)))
     on call is =
         step-some (λ u. Caused host Ending (call ∷ calls) (mend_confirmed m holds (Through u))) (is_held call.answer.reply) tt
@@ -127,23 +131,30 @@ module _ (script : Script) (host : HostNo) (target : BayNo) (id : Number) (row :
     off call is stop =
         mend-refuses (mend_releases m holds) (mend_why mend_confirm call.answer.reply (causes.Changed row)) (call ∷ calls)
         (else-stands script host (tasks.Rebuild target) (call ∷ calls) (refusal None None (parity_bay script.n row) call.answer.reply) (causes.Changed row)
-        (refusal-stands script host (tasks.Rebuild target) calls mend_confirm call is None None (never-behind script host (tasks.Rebuild target) mend_confirm.request) tt)
-        (λ none. inl (inl (held-badly script.n row id call is (step-none (is_held call.answer.reply) tt stop), granted))))
+        (refusal-stands script host (tasks.Rebuild target) calls mend_confirm call is None None (mend-floor mend_confirm.request) missed)
+        (λ none. inl (unrefused-plain script host (tasks.Rebuild target) calls mend_confirm call is None None (mend-floor mend_confirm.request) missed none, inl (held-badly script.n row id call is (step-none (is_held call.answer.reply) tt stop), granted))))
 
   -- the claims
   abbrev mend_claim : BayNo → Errand
   mend_claim bay = claim id row Mend 0 true bay
 
-  bare-told : (bay : BayNo) (calls : List Call) (call : Call) → call.bay ≡ bay → (cell : Option Cell) (grant : Grant) → grant.cell ≡ cell → grant_of call.answer.reply ≡ Some grant
+  -- so it claims
+  abbrev IsMending : Errand → Type 0
+  IsMending e = e.request ≡ Claim row id Mend 0 true
+
+  mending-takes : (e : Errand) → IsMending e → IsTake e.request
+  mending-takes e is = subst IsTake (sym is) (claim-takes row id Mend 0 true)
+
+  bare-told : (bay : BayNo) (calls : List Call) (call : Call) → IsMendClaim bay call → (cell : Option Cell) (grant : Grant) → grant.cell ≡ cell → grant_of call.answer.reply ≡ Some grant
       → (b : Bool) → is_at bay target ≡ b → (if is_none cell && not b then None else Some (record { bay = bay; grant = grant })) ≡ (let o : Option Hold = None in o)
       → CauseStands (call ∷ calls) (causes.Gone bay)
   bare-told bay calls call at None grant none same true e stop = cc
-  bare-told bay calls call at None grant none same false e stop = inr (differ, inl (at, grant, same, ap is_some none)) where
+  bare-told bay calls call at None grant none same false e stop = inr (differ, inl (at, (grant, same, ap is_some none))) where
     differ : target ≡ bay → ⊥
     differ eq = let t : is_at bay target ≡ true = eq-eqb bay.0 target.0 (ap (λ (b : BayNo). b.0) (sym eq)) in cc
   bare-told bay calls call at (Some cell) grant none same b e stop = cc
 
-  gone-told : (e : Errand) (calls : List Call) (call : Call) → call.bay ≡ e.bay → (r : Reply) → call.answer.reply ≡ r → IsTake e.request → fits e.request r ≡ true
+  gone-told : (e : Errand) (calls : List Call) (call : Call) → IsMendClaim e.bay call → (r : Reply) → call.answer.reply ≡ r → IsTake e.request → fits e.request r ≡ true
       → refusal None None e.bay r ≡ None → hold_of m e.bay r ≡ None → CauseStands (call ∷ calls) (causes.Gone e.bay)
   gone-told e calls call at (replies.Granted cell read_no write_no last life seized) same t fit none stop =
       bare-told e.bay calls call at cell (record { cell = cell; last = last; life = life; seized = seized }) refl (ap grant_of same) (is_at e.bay target) refl stop
@@ -162,13 +173,13 @@ module _ (script : Script) (host : HostNo) (target : BayNo) (id : Number) (row :
   hold-none holds None e = refl
   hold-none holds (Some hold) e = cc
 
-  claim-stopped : (e : Errand) (calls : List Call) (holds : List Hold) (call : Call) → IsTake e.request → IsReply e call
+  claim-stopped : (e : Errand) (calls : List Call) (holds : List Hold) (call : Call) → IsMending e → MissingTold None calls → IsReply e call
       → (mending m).step holds e call.answer.reply ≡ None → Caused host Ending (call ∷ calls) (mend_claimed m (Stopped holds e call.answer.reply))
-  claim-stopped e calls holds call t is stop =
+  claim-stopped e calls holds call mends missed is stop =
       mend-refuses (mend_releases m (with_hold holds e.bay (grant_of call.answer.reply))) (mend_why e call.answer.reply (causes.Gone e.bay)) (call ∷ calls)
       (else-stands script host (tasks.Rebuild target) (call ∷ calls) (refusal None None e.bay call.answer.reply) (causes.Gone e.bay)
-      (refusal-stands script host (tasks.Rebuild target) calls e call is None None (never-behind script host (tasks.Rebuild target) e.request) tt)
-      (λ none. gone-told e calls call (bay-asked is) call.answer.reply refl t is.fit none (hold-none holds (hold_of m e.bay call.answer.reply) stop)))
+      (refusal-stands script host (tasks.Rebuild target) calls e call is None None (mend-floor e.request) missed)
+      (λ none. gone-told e calls call (bay-asked is, row, id, what-asked is ∙ mends) call.answer.reply refl (mending-takes e mends) is.fit none (hold-none holds (hold_of m e.bay call.answer.reply) stop)))
 
   grant-told : (bay : BayNo) (r : Reply) (hold : Hold) → hold_of m bay r ≡ Some hold → (grant : Grant) × (grant_of r ≡ Some grant)
   grant-told bay r hold e = by (grant_of r) refl e where
@@ -176,32 +187,43 @@ module _ (script : Script) (host : HostNo) (target : BayNo) (id : Number) (row :
     by None same e = cc
     by (Some grant) same e = (grant, same)
 
-  rest-claimed : (bays : List BayNo) (calls : List Call) (holds : List Hold) → Happened (IsGranted script.n row) calls
+  -- so far no claim found a slot missing, and the parity was granted
+  abbrev Claimed : List Call → Type 0
+  Claimed calls = MissingTold None calls × Happened (IsGranted script.n row) calls
+
+  hold-kept : (e : Errand) (calls : List Call) (holds : List Hold) (call : Call) → Claimed calls → (o : Option Hold) → hold_of m e.bay call.answer.reply ≡ o
+      → IfSome (option_map (λ (hold : Hold). holds ++ hold ∷ []) o) (λ hs. Claimed (call ∷ calls))
+  hold-kept e calls holds call i None same = tt
+  hold-kept e calls holds call i (Some hold) same =
+      let g = grant-told e.bay call.answer.reply hold same in
+      (missing-more None calls call (grant-there call g.0 g.1) i.0, inr i.1)
+
+  rest-claimed : (bays : List BayNo) (calls : List Call) (holds : List Hold) → Claimed calls
       → Caused host Ending calls (bind (run (mending m) (claims id row Mend true bays) holds) (mend_claimed m))
-  rest-claimed bays calls holds granted =
-      caused-walk host Ending (λ e. IsTake e.request) (λ cs hs. Happened (IsGranted script.n row) cs) (mending m) (mend_claimed m) (λ hs. tt)
-      (λ e cs hs call p i is. passed (λ hs. Happened (IsGranted script.n row) (call ∷ cs)) ((mending m).step hs e call.answer.reply) (λ x. inr i))
-      (λ cs hs i. mend-confirms hs cs i) (λ e cs hs call p i is stop. claim-stopped e cs hs call p is stop)
-      (claims id row Mend true bays) calls holds (takes bays) granted where
-        takes : (bs : List BayNo) → AllByRecursion (λ e. IsTake e.request) (claims id row Mend true bs)
-        takes [] = tt
-        takes (b ∷ bs) = (claim-takes row id Mend 0 true, takes bs)
+  rest-claimed bays calls holds claimed =
+      caused-walk host Ending IsMending (λ cs hs. Claimed cs) (mending m) (mend_claimed m) (λ hs. tt)
+      (λ e cs hs call p i is. hold-kept e cs hs call i (hold_of m e.bay call.answer.reply) refl)
+      (λ cs hs i. mend-confirms hs cs i.0 i.1) (λ e cs hs call p i is stop. claim-stopped e cs hs call p i.0 is stop)
+      (claims id row Mend true bays) calls holds (mends bays) claimed where
+        mends : (bs : List BayNo) → AllByRecursion IsMending (claims id row Mend true bs)
+        mends [] = tt
+        mends (b ∷ bs) = (refl, mends bs)
 
   pub mends_caused : Caused host Ending [] (mend_steps m)
   mends_caused = (
     tt,
-    λ call is. caused-go host Ending (λ holds. Happened (IsGranted script.n row) (call ∷ [])) (call ∷ []) ((mending m).step [] (mend_claim (parity_bay script.n row)) call.answer.reply)
+    λ call is. caused-go host Ending (λ holds. Claimed (call ∷ [])) (call ∷ []) ((mending m).step [] (mend_claim (parity_bay script.n row)) call.answer.reply)
         (λ holds. run (mending m) (claims id row Mend true (bays_of script.n row (units script.n))) holds) _ (mend_claimed m)
         (granted call is (hold_of m (parity_bay script.n row) call.answer.reply) refl)
         (λ holds i. rest-claimed (bays_of script.n row (units script.n)) (call ∷ []) holds i)
-        (claim-stopped (mend_claim (parity_bay script.n row)) [] [] call (claim-takes row id Mend 0 true) is),
+        (claim-stopped (mend_claim (parity_bay script.n row)) [] [] call refl none-missing is),
   ) where
     granted : (call : Call) → IsReply (mend_claim (parity_bay script.n row)) call → (o : Option Hold) → hold_of m (parity_bay script.n row) call.answer.reply ≡ o
-        → IfSome (option_map (λ (hold : Hold). [] ++ hold ∷ []) o) (λ holds. Happened (IsGranted script.n row) (call ∷ []))
+        → IfSome (option_map (λ (hold : Hold). [] ++ hold ∷ []) o) (λ holds. Claimed (call ∷ []))
     granted call is None same = tt
     granted call is (Some hold) same =
         let g = grant-told (parity_bay script.n row) call.answer.reply hold same in
-        inl ((bay-asked is, id, Mend, 0, true, what-asked is), g.0, g.1)
+        (missing-more None [] call (grant-there call g.0 g.1) none-missing, inl ((bay-asked is, id, Mend, 0, true, what-asked is), g.0, g.1))
 
 -- Recoveries
 module _ (script : Script) (host : HostNo) (id : Number) (row : RowNo) where
@@ -210,6 +232,9 @@ module _ (script : Script) (host : HostNo) (id : Number) (row : RowNo) where
 
   abbrev Recovers : List Call → Finish → Type 0
   Recovers = FinishStands script host (tasks.Recover row)
+
+  recover-floor : (what : Request) → BehindRightly script host (tasks.Recover row) None what
+  recover-floor what = never-behind script host (tasks.Recover row) (λ plain. plain) what
 
   recovered : (line : Row) (n : Number) (lost : Option ℕ) (calls : List Call) → Caused host Recovers calls (recover_put r line n lost (Through tt))
   recovered line n lost calls =
@@ -242,11 +267,11 @@ module _ (script : Script) (host : HostNo) (id : Number) (row : RowNo) where
   not-missing : (reply : Reply) (floor : Number) → reply ≡ replies.Missing floor → is_missing reply ≡ false → ⊥
   not-missing reply floor same e = let h : is_missing reply ≡ true = ap is_missing same in cc
 
-  changed-told : (calls : List Call) (call : Call) → IsReply recover_confirm call → (o : Option Grant) → ParityTold script.n row o calls → is_as_before o call.answer.reply ≡ false
+  changed-told : (calls : List Call) (call : Call) → IsReply recover_confirm call → (HasOwnCause script (tasks.Recover row) calls call → ⊥) → (o : Option Grant) → ParityTold script.n row o calls → is_as_before o call.answer.reply ≡ false
       → Stands script host (tasks.Recover row) (call ∷ calls) (causes.Changed row)
-  changed-told calls call is (Some grant) told e = inl (inl (held-badly script.n row id call is e, told))
-  changed-told calls call is None told e =
-      inr (inl (((bay-asked is, id, false, what-asked is), λ miss. not-missing call.answer.reply miss.0 miss.1 e), told))
+  changed-told calls call is own (Some grant) told e = inl (own, inl (held-badly script.n row id call is e, told))
+  changed-told calls call is own None told e =
+      inl (own, inr (((bay-asked is, id, false, what-asked is), λ miss. not-missing call.answer.reply miss.0 miss.1 e), told))
 
   stay-none : (o : Option Cause) (b : Bool) → stays_unless o b ≡ false → o ≡ None → b ≡ false
   stay-none None b e none = e
@@ -259,8 +284,9 @@ module _ (script : Script) (host : HostNo) (id : Number) (row : RowNo) where
       (λ seen. recover-draws taken.row (call ∷ calls) seen))
       (λ call is stop. recover-refuses taken.row _ (call ∷ calls)
       (else-stands script host (tasks.Recover row) (call ∷ calls) (refusal None taken.missing (parity_bay script.n row) call.answer.reply) (causes.Changed row)
-      (refusal-stands script host (tasks.Recover row) calls recover_confirm call is None taken.missing (never-behind script host (tasks.Recover row) recover_confirm.request) missed)
-      (λ none. changed-told calls call is taken.row.parity told
+      (refusal-stands script host (tasks.Recover row) calls recover_confirm call is None taken.missing (recover-floor recover_confirm.request) missed)
+      (λ none. changed-told calls call is
+      (unrefused-plain script host (tasks.Recover row) calls recover_confirm call is None taken.missing (recover-floor recover_confirm.request) missed none) taken.row.parity told
       (stay-none (refusal None taken.missing (parity_bay script.n row) call.answer.reply) (is_as_before taken.row.parity call.answer.reply)
       (step-none (stays taken (parity_bay script.n row) call.answer.reply) tt stop) none))))
 
@@ -269,13 +295,13 @@ module _ (script : Script) (host : HostNo) (id : Number) (row : RowNo) where
       caused-takes script host (tasks.Recover row) None (units_seized r) (λ cs t e reply s. recover-refuses t.row (why None t e reply) cs s)
       with_wanted (λ cs t. ParityTold script.n row t.row.parity cs) more (λ cs t missed told. recover-confirms cs t missed told)
       (claims id row Seize true (bays_of script.n row (units script.n))) calls taken
-      (claims-take script host (tasks.Recover row) None id row Seize true (never-behind script host (tasks.Recover row) (Claim row id Seize 0 true)) (bays_of script.n row (units script.n)))
+      (claims-take script host (tasks.Recover row) None id row Seize true (recover-floor (Claim row id Seize 0 true)) (bays_of script.n row (units script.n)))
       missed told where
         more : (cs : List Call) (t : Taken) (call : Call) (bay : BayNo) (o : Option Grant) → ParityTold script.n row t.row.parity cs → ParityTold script.n row (with_grant with_wanted t bay o).row.parity (call ∷ cs)
         more cs t call bay (Some grant) told = parity-more script.n row t.row.parity cs call told
         more cs t call bay None told = parity-more script.n row t.row.parity cs call told
 
-  lacking : (calls : List Call) (taken : Taken) → Happened (IsMissingAt (parity_bay script.n row)) calls → MissingTold taken.missing calls → ParityTold script.n row taken.row.parity calls → (b : Bool) → (host.0 == 0) ≡ b
+  lacking : (calls : List Call) (taken : Taken) → Happened (IsLacking script.n row) calls → MissingTold taken.missing calls → ParityTold script.n row taken.row.parity calls → (b : Bool) → (host.0 == 0) ≡ b
       → Caused host Recovers calls (if b then seize_units r taken else recover_refused r taken.row (causes.Gone (parity_bay script.n row)))
   lacking calls taken gone missed told true e = seizes calls taken missed told
   lacking calls taken gone missed told false e = recover-refuses taken.row (causes.Gone (parity_bay script.n row)) calls (other, refl, gone) where
@@ -288,9 +314,9 @@ module _ (script : Script) (host : HostNo) (id : Number) (row : RowNo) where
   parity-seized : (call : Call) (o : Option Grant) → MissingTold (with_grant with_parity first_taken (parity_bay script.n row) o).missing (call ∷ []) → ParityTold script.n row o (call ∷ [])
       → Caused host Recovers (call ∷ []) (parity_seized r (Through (with_grant with_parity first_taken (parity_bay script.n row) o)))
   parity-seized call (Some grant) missed told = seizes (call ∷ []) (with_grant with_parity first_taken (parity_bay script.n row) (Some grant)) missed told
-  parity-seized call None missed told = lacking (call ∷ []) (with_grant with_parity first_taken (parity_bay script.n row) None) missed missed told (host.0 == 0) refl
+  parity-seized call None missed told = lacking (call ∷ []) (with_grant with_parity first_taken (parity_bay script.n row) None) told missed told (host.0 == 0) refl
 
   pub recoveries_caused : Caused host Recovers [] (recover_steps r)
   recoveries_caused =
       caused-parity script host (tasks.Recover row) None (parity_seized r) (λ cs t e reply s. recover-refuses t.row (why None t e reply) cs s)
-      row id Seize 0 true [] first_taken (never-behind script host (tasks.Recover row) (Claim row id Seize 0 true)) tt parity-seized
+      row id Seize 0 true [] first_taken (recover-floor (Claim row id Seize 0 true)) none-missing parity-seized

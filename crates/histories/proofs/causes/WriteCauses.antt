@@ -1,5 +1,5 @@
 -- The causes of writes.
-use Rattle.std.proofs.Common.{◌≡◌, inl, inr, refl, subst, ℕ, ◌==◌, Bool, true, false, if◌then◌else◌, List, [], ◌∷◌, ◌++◌, Option, Some, None, IfSome, option_map, map, zip}
+use Rattle.std.proofs.Common.{◌≡◌, inl, inr, refl, sym, ap, subst, ◌∙◌, ℕ, ◌==◌, Bool, true, false, if◌then◌else◌, List, [], ◌∷◌, ◌++◌, Option, Some, None, IfSome, option_map, map, zip}
 use Rattle.std.specs.List.{AllByRecursion}
 use Rattle.raid_base.specs.declared.numbers.BayNo.{BayNo}
 use Rattle.raid_base.specs.declared.numbers.HostNo.{HostNo}
@@ -37,8 +37,9 @@ use Rattle.attempts.proofs.PhaseLemmas.{all-weaken}
 use Rattle.script_text.specs.Script.{Script}
 use Rattle.histories.specs.Progress.{access}
 use Rattle.histories.specs.Calls.{Happened, id_of, Answers}
-use Rattle.histories.specs.Causes.{IsReadOrWrite, is_held_well, IsPutIn}
-use Rattle.histories.proofs.causes.CauseLemmas.{Stands, IsReply, bay-asked, what-asked, IsStopCause, Caused, caused-walk, caused-one, caused-draw, some-none, any-errands, GrantOrGap, take-told, MissingTold, missing-more, ParityTold, parity-more, EndStands, FinishStands, refuses, BehindRightly, behind-rightly, refusal-stands, else-stands, Takes, caused-takes, caused-parity, shares-take, claims-take}
+use Rattle.histories.specs.Causes.{IsReadOrWrite, is_held_well, HasOwnCause, IsPutIn}
+use Rattle.histories.specs.Torn.{IsMissing}
+use Rattle.histories.proofs.causes.CauseLemmas.{Stands, IsReply, bay-asked, what-asked, IsStopCause, Caused, caused-walk, caused-one, caused-draw, some-none, any-errands, GrantOrGap, take-told, MissingTold, none-missing, missing-more, missing-again, grant-there, with-missing, ParityTold, lacking-missing, parity-more, EndStands, FinishStands, refuses, BehindRightly, behind-rightly, refusal-stands, unrefused-plain, else-stands, Takes, caused-takes, caused-parity, shares-take, claims-take}
 
 -- Puts
 abbrev IsPutFor : RowNo → Errand → Type 0
@@ -245,19 +246,20 @@ module _ (script : Script) (host : HostNo) (task : Task) (plain : IsReadOrWrite 
   rows-more : (calls : List Call) (call : Call) (rows : List Row) → AllByRecursion (RowTold calls) rows → AllByRecursion (RowTold (call ∷ calls)) rows
   rows-more calls call rows h = all-weaken (RowTold calls) (RowTold (call ∷ calls)) (λ row told. parity-more script.n row.part.row row.parity calls call told) rows h
 
-  changed-told : (row : Row) (calls : List Call) (call : Call) → IsReply (row_confirm a row) call → (o : Option Grant) → ParityTold script.n row.part.row o calls → confirmed_row row call.answer.reply o ≡ None
-      → CauseStands (call ∷ calls) (causes.Changed row.part.row)
-  changed-told row calls call is (Some grant) told stop =
-      inl (inl ((bay-asked is, id, lacks row.others, what-asked is, held-badly row grant (lacks row.others) call.answer.reply stop), told))
-  changed-told row calls call is None told stop =
-      inr (inl (((bay-asked is, id, lacks row.others, what-asked is), λ miss. not-missing row call.answer.reply miss.0 miss.1 stop), told))
+  changed-told : (row : Row) (calls : List Call) (call : Call) → IsReply (row_confirm a row) call → (HasOwnCause script task calls call → ⊥) → (o : Option Grant) → ParityTold script.n row.part.row o calls
+      → confirmed_row row call.answer.reply o ≡ None → CauseStands (call ∷ calls) (causes.Changed row.part.row)
+  changed-told row calls call is own (Some grant) told stop =
+      inl (own, inl ((bay-asked is, id, lacks row.others, what-asked is, held-badly row grant (lacks row.others) call.answer.reply stop), told))
+  changed-told row calls call is own None told stop =
+      inl (own, inr (((bay-asked is, id, lacks row.others, what-asked is), λ miss. not-missing row call.answer.reply miss.0 miss.1 stop), told))
 
   confirm-stopped : (row : Row) (calls : List Call) (call : Call) (done : Rows) → IsReply (row_confirm a row) call → MissingTold done.missing calls → RowTold calls row
       → (confirming a row).step done (row_confirm a row) call.answer.reply ≡ None → CauseStands (call ∷ calls) (confirm_cause a row done (row_confirm a row) call.answer.reply)
   confirm-stopped row calls call done is missed told stop =
       else-stands script host task (call ∷ calls) (refusal least done.missing (parity_bay script.n row.part.row) call.answer.reply) (causes.Changed row.part.row)
       (refusal-stands script host task calls (row_confirm a row) call is least done.missing (rightly (row_confirm a row).request refl) missed)
-      (λ none. changed-told row calls call is row.parity told (unrefused (refusal least done.missing (parity_bay script.n row.part.row) call.answer.reply) stop none)) where
+      (λ none. changed-told row calls call is
+      (unrefused-plain script host task calls (row_confirm a row) call is least done.missing (rightly (row_confirm a row).request refl) missed none) row.parity told (unrefused (refusal least done.missing (parity_bay script.n row.part.row) call.answer.reply) stop none)) where
         no-row : (o : Option Row) → option_map (λ (r : Row). record done { rows = done.rows ++ r ∷ [] }) o ≡ None → o ≡ None
         no-row None e = refl
         no-row (Some r) e = cc
@@ -269,17 +271,31 @@ module _ (script : Script) (host : HostNo) (task : Task) (plain : IsReadOrWrite 
 
   module _ (rows left : List Row)
       (goes_on : (calls : List Call) (done : Rows) → MissingTold done.missing calls → AllByRecursion (RowTold calls) left → Caused host Ending calls (confirm_rows a rows left done)) where
-    confirm-passed : (calls : List Call) (done : Rows) (call : Call) → MissingTold done.missing calls → AllByRecursion (RowTold calls) left → (o : Option Row)
+    confirm-passed : (row : Row) (calls : List Call) (done : Rows) (call : Call) → IsReply (row_confirm a row) call → MissingTold done.missing calls → RowTold calls row → AllByRecursion (RowTold calls) left
+        → (o : Option Row) → row_or_change least done.missing (parity_bay script.n row.part.row) row call.answer.reply ≡ o
         → IfSome (option_map (λ (r : Row). record done { rows = done.rows ++ r ∷ [] }) o) (λ d. Caused host Ending (call ∷ calls) (confirm_rows a rows left d))
-    confirm-passed calls done call missed told None = tt
-    confirm-passed calls done call missed told (Some r) =
-        goes_on (call ∷ calls) (record done { rows = done.rows ++ r ∷ [] }) (missing-more done.missing calls call missed) (rows-more calls call left told)
+    confirm-passed row calls done call is missed own told None e = tt
+    confirm-passed row calls done call is missed own told (Some r) e =
+        goes_on (call ∷ calls) (record done { rows = done.rows ++ r ∷ [] }) (still row.parity refl own) (rows-more calls call left told) where
+          still : (o : Option Grant) → row.parity ≡ o → ParityTold script.n row.part.row o calls → MissingTold done.missing (call ∷ calls)
+          still None none lacking =
+              missing-again done.missing calls call (missed.1 (parity_bay script.n row.part.row) (lacking-missing script.n row.part.row calls lacking) ∙ ap (λ (b : BayNo). Some b) (sym (bay-asked is))) missed
+          still (Some grant) some granted = missing-more done.missing calls call there missed where
+            unheld : (floor : Number) → (c : Option Cause) → unrefused_row row (replies.Missing floor) c ≡ None
+            unheld floor None = ap (confirmed_row row (replies.Missing floor)) some
+            unheld floor (Some cause) = refl
+
+            there : IsMissing call → ⊥
+            there miss =
+                let passed : row_or_change least done.missing (parity_bay script.n row.part.row) row (replies.Missing miss.0) ≡ Some r =
+                ap (row_or_change least done.missing (parity_bay script.n row.part.row) row) (sym miss.1) ∙ e in
+                some-none (sym passed ∙ unheld miss.0 (refusal least done.missing (parity_bay script.n row.part.row) (replies.Missing miss.0)))
 
     confirms-row : (row : Row) (calls : List Call) (done : Rows) → MissingTold done.missing calls → RowTold calls row → AllByRecursion (RowTold calls) left
         → Caused host Ending calls (confirm_rows a rows (row ∷ left) done)
     confirms-row row calls done missed told others =
         caused-one host Ending (confirming a row) (row_confirmed a rows row (confirm_rows a rows left)) (row_confirm a row) calls done tt
-        (λ call is. confirm-passed calls done call missed others (row_or_change least done.missing (parity_bay script.n row.part.row) row call.answer.reply))
+        (λ call is. confirm-passed row calls done call is missed told others (row_or_change least done.missing (parity_bay script.n row.part.row) row call.answer.reply) refl)
         (λ call is stop. refuses script host task (write_releases a rows) (confirm_cause a row done (row_confirm a row) call.answer.reply) (call ∷ calls)
         (confirm-stopped row calls call done is missed told stop))
 
@@ -328,22 +344,22 @@ module _ (script : Script) (host : HostNo) (task : Task) (plain : IsReadOrWrite 
         caused-takes script host task least (row_claimed a rest) stops with_other Told told-other row-done (other_shares a taken.row.part) calls taken (others-take taken.row.part) missed t
 
     -- a share of another unit that is missing ends the shares
-    gap-of : (r : Reply) (o : Option Cause) (g : Option Grant) → IfSome (unless o g) (GrantOrGap r) → o ≡ None → g ≡ None → GrantOrGap r None
-    gap-of r None None h e n = h
-    gap-of r None (Some grant) h e n = cc
-    gap-of r (Some cause) g h e n = cc
+    gap-of : (missing : Option BayNo) (bay : BayNo) (r : Reply) (o : Option Cause) (g : Option Grant) → IfSome (unless o g) (GrantOrGap missing bay r) → o ≡ None → g ≡ None → GrantOrGap missing bay r None
+    gap-of missing bay r None None h e n = h
+    gap-of missing bay r None (Some grant) h e n = cc
+    gap-of missing bay r (Some cause) g h e n = cc
 
     share-ended : (e : Errand) (calls : List Call) (taken : Taken) (call : Call) → call.bay ≡ e.bay → MissingTold taken.missing calls → Told calls taken
-        → (o : Option Cause) → IfSome o (CauseStands (call ∷ calls)) → (o ≡ None → GrantOrGap call.answer.reply None)
+        → (o : Option Cause) → IfSome o (CauseStands (call ∷ calls)) → (o ≡ None → GrantOrGap taken.missing e.bay call.answer.reply None)
         → Caused host Ending (call ∷ calls) (share_stopped a rest taken e.bay o)
     share-ended e calls taken call at missed t (Some cause) s gap = refuses script host task (write_releases a (taken.before ++ taken.row ∷ [])) cause (call ∷ calls) s
     share-ended e calls taken call at missed t None s gap =
-        claims-wanted true (call ∷ calls) (with_grant with_other taken e.bay None) (inl (at, gap refl)) (told-other calls taken call e.bay None t)
+        claims-wanted true (call ∷ calls) (with_grant with_other taken e.bay None) (with-missing script host task with_other taken e.bay calls call at None (gap refl) missed) (told-other calls taken call e.bay None t)
 
-    until-kept : (e : Errand) (calls : List Call) (taken : Taken) (call : Call) → MissingTold taken.missing calls → Told calls taken → (o : Option Grant)
+    until-kept : (e : Errand) (calls : List Call) (taken : Taken) (call : Call) → MissingTold taken.missing calls → Told calls taken → (o : Option Grant) → grant_of call.answer.reply ≡ o
         → IfSome (option_map (λ grant. with_grant with_other taken e.bay (Some grant)) o) (λ t. MissingTold t.missing (call ∷ calls) × Told (call ∷ calls) t)
-    until-kept e calls taken call missed t None = tt
-    until-kept e calls taken call missed t (Some grant) = (missing-more taken.missing calls call missed, told-other calls taken call e.bay (Some grant) t)
+    until-kept e calls taken call missed t None same = tt
+    until-kept e calls taken call missed t (Some grant) same = (missing-more taken.missing calls call (grant-there call grant same) missed, told-other calls taken call e.bay (Some grant) t)
 
     no-grant : (taken : Taken) (bay : BayNo) (o : Option Grant) → option_map (λ grant. with_grant with_other taken bay (Some grant)) o ≡ None → o ≡ None
     no-grant taken bay None e = refl
@@ -353,10 +369,10 @@ module _ (script : Script) (host : HostNo) (task : Task) (plain : IsReadOrWrite 
         → Caused host Ending calls (bind (run (taking_until with_other) (other_shares a taken.row.part) taken) (others_shared a rest))
     shares-until calls taken missed t =
         caused-walk host Ending (Takes script host task least) (λ cs t. MissingTold t.missing cs × Told cs t) (taking_until with_other) (others_shared a rest) (λ t. tt)
-        (λ e cs t call p i is. until-kept e cs t call i.0 i.1 (grant_of call.answer.reply)) (λ cs t i. claims-wanted false cs t i.0 i.1)
+        (λ e cs t call p i is. until-kept e cs t call i.0 i.1 (grant_of call.answer.reply) refl) (λ cs t i. claims-wanted false cs t i.0 i.1)
         (λ e cs t call p i is stop. share-ended e cs t call (bay-asked is) i.0 i.1 (refusal least t.missing e.bay call.answer.reply)
         (refusal-stands script host task cs e call is least t.missing p.rightly i.0)
-        (λ none. gap-of call.answer.reply (refusal least t.missing e.bay call.answer.reply) (grant_of call.answer.reply)
+        (λ none. gap-of t.missing e.bay call.answer.reply (refusal least t.missing e.bay call.answer.reply) (grant_of call.answer.reply)
         (take-told e.request p.take least t.missing e.bay call.answer.reply is.fit) none (no-grant t e.bay (grant_of call.answer.reply) stop)))
         (other_shares a taken.row.part) calls taken (others-take taken.row.part) (missed, t)
 
@@ -386,4 +402,4 @@ module _ (script : Script) (host : HostNo) (task : Task) (plain : IsReadOrWrite 
   rows-caused (part ∷ left) calls done missed told = claims-parity (claim_rows a left) (rows-caused left) part calls done missed told
 
   pub writes_caused : Caused host Ending [] (write_steps a)
-  writes_caused = rows-caused parts [] no_rows tt tt
+  writes_caused = rows-caused parts [] no_rows none-missing tt
