@@ -1,5 +1,5 @@
 -- When a unit of a row is named lost.
-use Rattle.std.specs.Prelude.{◌≡◌, ◌≢◌, ◌⊎◌, ◌↔◌, ℕ, ◌<◌, Bool, true, List, Option, Some}
+use Rattle.std.specs.Prelude.{◌≡◌, ◌≢◌, ◌⊎◌, ◌↔◌, ℕ, ◌+◌, ◌<◌, Bool, true, List, Option, Some}
 use Rattle.raid_base.specs.declared.numbers.RowNo.{RowNo}
 use Rattle.raid_base.specs.declared.numbers.Number.{Number}
 use Rattle.raid_base.specs.declared.messages.Note.{Note}
@@ -37,7 +37,7 @@ pub record FoundTorn (n : ℕ) (row : RowNo) (calls : List Call) (unit : ℕ) (n
   pub mask : note.mask ≢ 0
   pub missing : Happened (λ call. IsClaim (bay_of n row unit) row call × IsMissing call) calls
   pub reached : (has_unit note.mask unit ≡ true)
-      ⊎ ((other : ℕ) × (has_unit note.mask other ≡ true) × Happened (λ call. IsClaim (bay_of n row other) row call × ShowsLast note.origin call) calls)
+      ⊎ ((other : ℕ) × (other + 1 < n) × (has_unit note.mask other ≡ true) × Happened (λ call. IsClaim (bay_of n row other) row call × ShowsLast note.origin call) calls)
 
 -- a write claimed this parity with this id and this mask
 abbrev pub IsWriteClaim : ℕ → RowNo → Number → ℕ → Call → Type 0
@@ -49,10 +49,11 @@ pub record IsOfWrite (n : ℕ) (row : RowNo) (history : List Call) (unit : ℕ) 
   pub claimed : Happened (IsWriteClaim n row note.origin note.mask) history
   pub unfinished : ¬ (Happened (λ call. IsPut (parity_bay n row) row note.origin call × IsDone call) history)
   pub torn : (has_unit note.mask unit ≡ true)
-      ⊎ ((other : ℕ) × (other ≢ unit) × Happened (λ call. IsPut (bay_of n row other) row note.origin call × IsDone call) history)
+      ⊎ ((other : ℕ) × (other + 1 < n) × (other ≢ unit) × Happened (λ call. IsPut (bay_of n row other) row note.origin call × IsDone call) history)
 
--- a recovery names a unit lost exactly where it found its row torn with that unit missing
+-- a recovery names a unit of the row lost exactly where it found its row torn with that unit missing
 pub record NamesLost (script : Script) (history : List Call) (row : RowNo) (e : Ending) (lost : Option ℕ) : Type 0 where
+  pub named : (unit : ℕ) → lost ≡ Some unit → unit + 1 < script.n
   pub torn : (unit : ℕ) → unit < script.n → (lost ≡ Some unit) ↔ ((note : Note) × FoundTorn script.n row e.calls unit note)
   pub write : (unit : ℕ) (note : Note) → lost ≡ Some unit → FoundTorn script.n row e.calls unit note → IsOfWrite script.n row history unit note
 

@@ -1,6 +1,6 @@
 -- Along a history each recovery that has ended has named a unit lost exactly where its calls found the row torn with that unit
 -- missing, and the note is of a write that put another unit of the row or was to put that one.
-use Rattle.std.proofs.Common.{◌≡◌, ◌⊎◌, inl, inr, refl, subst, ℕ, ◌+◌, ◌<◌, ◌==◌, ◌||◌, Bool, true, false, List, [], ◌∷◌, drop, Option, Some, None, Result, Ok, Err}
+use Rattle.std.proofs.Common.{arith, ◌≡◌, ◌⊎◌, inl, inr, refl, subst, ℕ, ◌+◌, ◌-◌, ◌<◌, ◌==◌, ◌||◌, Bool, true, false, List, [], ◌∷◌, drop, Option, Some, None, Result, Ok, Err}
 use Rattle.std.specs.List.{AllByRecursion}
 use Rattle.raid_base.specs.declared.numbers.BayNo.{BayNo}
 use Rattle.raid_base.specs.declared.numbers.HostNo.{HostNo}
@@ -288,6 +288,7 @@ module _ (script : Script) (is : IsScript script) (history : List Call) (along :
 
   names-lost : (row : RowNo) (e : Ending) (lost : Option ℕ) → Known script is host Among row lost e.calls → NamesLost script history row e lost
   names-lost row e lost k = record {
+    named = λ unit named. (let low : unit < script.n - 1 = (k.named.torn unit named).0 in omega (arith, low));
     torn = λ unit below. (λ named. (k.named.torn unit named).1, λ found. k.named.names unit found.0 below (within found.0 unit found.1) found.1);
     write = λ unit note named found. torn-of-write script is row k.below history along e.calls k.all lost k.named unit note named found;
   }

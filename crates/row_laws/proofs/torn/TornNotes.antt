@@ -1,6 +1,6 @@
 -- A note that a claim of a parity seized, and that has units: it came from a write that claimed the parity with them, which puts
 -- the parity at no time. All its units are units of the row, and a slot that was shown as put by that write was put by it.
-use Rattle.std.proofs.Common.{◌≡◌, ◌≢◌, ◌⊎◌, inl, inr, refl, sym, ap, subst, ◌∙◌, ℕ, ◌-◌, ◌^◌, ◌<◌, ◌≤◌, ◌&&◌, nat_lt, Bool, true, false, List, [], ◌∷◌, Option, Some, None, Result, Ok, Err, arith}
+use Rattle.std.proofs.Common.{◌≡◌, ◌≢◌, ◌⊎◌, inl, inr, refl, sym, ap, subst, ◌∙◌, ℕ, ◌+◌, ◌-◌, ◌^◌, ◌<◌, ◌≤◌, ◌&&◌, nat_lt, Bool, true, false, List, [], ◌∷◌, Option, Some, None, Result, Ok, Err, arith}
 use Rattle.std.specs.List.{AllByRecursion}
 use Rattle.std.proofs.lemmas.Bool.{eq-eqb}
 use Rattle.std.proofs.lemmas.Bool.Decides.{nat_tests}
@@ -324,12 +324,12 @@ module _ (script : Script) (is : IsScript script) where
         let u : Unfinished history note = seized-of history along note f.mask g.0 (among g.0 g.1) g.2.0 g.2.1 in
         record { claimed = u.claimed; unfinished = u.unfinished; torn = by (least-id history along note.origin note.mask u.claimed) f.reached }
       where
-        by : 1 ≤ note.origin.0 → (has_unit note.mask unit ≡ true) ⊎ ((other : ℕ) × (has_unit note.mask other ≡ true) × Happened (λ call. IsClaim (bay_of script.n row other) row call × ShowsLast note.origin call) calls) →
-            (has_unit note.mask unit ≡ true) ⊎ ((other : ℕ) × (other ≢ unit) × Happened (λ call. IsPut (bay_of script.n row other) row note.origin call × IsDone call) history)
+        by : 1 ≤ note.origin.0 → (has_unit note.mask unit ≡ true) ⊎ ((other : ℕ) × (other + 1 < script.n) × (has_unit note.mask other ≡ true) × Happened (λ call. IsClaim (bay_of script.n row other) row call × ShowsLast note.origin call) calls) →
+            (has_unit note.mask unit ≡ true) ⊎ ((other : ℕ) × (other + 1 < script.n) × (other ≢ unit) × Happened (λ call. IsPut (bay_of script.n row other) row note.origin call × IsDone call) history)
         by least (inl has) = inl has
-        by least (inr (other, has, shown)) =
+        by least (inr (other, inside, has, shown)) =
             let s = happened-in calls shown in
-            inr (other, apart s.0 s.1 s.2.0 s.2.1, shown-put (bay_of script.n row other) row below history along note.origin least s.0 (among s.0 s.1) s.2.0 s.2.1)
+            inr (other, inside, apart s.0 s.1 s.2.0 s.2.1, shown-put (bay_of script.n row other) row below history along note.origin least s.0 (among s.0 s.1) s.2.0 s.2.1)
           where
             apart : (c : Call) → IsIn c calls → IsClaim (bay_of script.n row other) row c → ShowsLast note.origin c → other ≢ unit
             apart c i claim (grant, granted, last) same =

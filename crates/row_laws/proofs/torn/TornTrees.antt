@@ -1,6 +1,7 @@
 -- How a recovery ends, by what its calls found: it names a unit lost where they found the row torn with that unit missing, and
 -- none where they did not.
 use Rattle.std.proofs.Common.{arith, ◌≡◌, ◌≢◌, ◌⊎◌, inl, inr, refl, sym, ap, subst, ◌∙◌, ℕ, ◌+◌, ◌-◌, ◌%◌, ◌<◌, ◌≤◌, ◌==◌, nat_lt, not, ◌&&◌, ◌||◌, Bool, true, false, if◌then◌else◌, List, [], ◌∷◌, ◌++◌, zip, Option, Some, None, option_map, IsSome, Result, Ok, Err}
+use Rattle.std.specs.List.{AllByRecursion}
 use Rattle.std.proofs.lemmas.Bool.Decides.{nat_tests}
 use Rattle.raid_base.specs.declared.numbers.BayNo.{BayNo}
 use Rattle.raid_base.specs.declared.numbers.HostNo.{HostNo}
@@ -157,10 +158,10 @@ module _ (r : Rescue) where
   torn-more : (calls : List Call) (call : Call) (unit : ℕ) (note : Note) → Torn calls unit note → Torn (call ∷ calls) unit note
   torn-more calls call unit note f = record { noted = inr f.noted; mask = f.mask; missing = inr f.missing; reached = by f.reached }
     where
-      by : (has_unit note.mask unit ≡ true) ⊎ ((other : ℕ) × (has_unit note.mask other ≡ true) × Happened (λ call. IsClaim (at_unit other) r.row call × ShowsLast note.origin call) calls) →
-          (has_unit note.mask unit ≡ true) ⊎ ((other : ℕ) × (has_unit note.mask other ≡ true) × Happened (λ call. IsClaim (at_unit other) r.row call × ShowsLast note.origin call) (call ∷ calls))
+      by : (has_unit note.mask unit ≡ true) ⊎ ((other : ℕ) × (other + 1 < r.n) × (has_unit note.mask other ≡ true) × Happened (λ call. IsClaim (at_unit other) r.row call × ShowsLast note.origin call) calls) →
+          (has_unit note.mask unit ≡ true) ⊎ ((other : ℕ) × (other + 1 < r.n) × (has_unit note.mask other ≡ true) × Happened (λ call. IsClaim (at_unit other) r.row call × ShowsLast note.origin call) (call ∷ calls))
       by (inl has) = inl has
-      by (inr (other, has, shown)) = inr (other, has, inr shown)
+      by (inr (other, inside, has, shown)) = inr (other, inside, has, inr shown)
 
   before-it : (at : BayNo) (Q : Call → Type 0) (calls : List Call) (call : Call) → NoClaim r call → Happened (λ c. IsClaim at r.row c × Q c) (call ∷ calls) → Happened (λ c. IsClaim at r.row c × Q c) calls
   before-it at Q calls call none (inl x) = absurd (none at x.0)
@@ -174,10 +175,10 @@ module _ (r : Rescue) where
     reached = by f.reached;
   }
     where
-      by : (has_unit note.mask unit ≡ true) ⊎ ((other : ℕ) × (has_unit note.mask other ≡ true) × Happened (λ call. IsClaim (at_unit other) r.row call × ShowsLast note.origin call) (call ∷ calls)) →
-          (has_unit note.mask unit ≡ true) ⊎ ((other : ℕ) × (has_unit note.mask other ≡ true) × Happened (λ call. IsClaim (at_unit other) r.row call × ShowsLast note.origin call) calls)
+      by : (has_unit note.mask unit ≡ true) ⊎ ((other : ℕ) × (other + 1 < r.n) × (has_unit note.mask other ≡ true) × Happened (λ call. IsClaim (at_unit other) r.row call × ShowsLast note.origin call) (call ∷ calls)) →
+          (has_unit note.mask unit ≡ true) ⊎ ((other : ℕ) × (other + 1 < r.n) × (has_unit note.mask other ≡ true) × Happened (λ call. IsClaim (at_unit other) r.row call × ShowsLast note.origin call) calls)
       by (inl has) = inl has
-      by (inr (other, has, shown)) = inr (other, has, before-it (at_unit other) (ShowsLast note.origin) calls call none shown)
+      by (inr (other, inside, has, shown)) = inr (other, inside, has, before-it (at_unit other) (ShowsLast note.origin) calls call none shown)
 
   named-more : (lost : Option ℕ) (calls : List Call) (call : Call) → NoClaim r call → Named r.n r.row lost calls → Named r.n r.row lost (call ∷ calls)
   named-more lost calls call none h = record {
@@ -291,19 +292,20 @@ module _ (r : Rescue) where
       let same : u ≡ unit = cc in subst (λ (v : ℕ). Happened (λ call. IsClaim (at_unit v) r.row call × IsMissing call) calls) same h.0
 
   abbrev WasPut : List Call → Note → Type 0
-  WasPut calls note = (other : ℕ) × (has_unit note.mask other ≡ true) × Happened (λ call. IsClaim (at_unit other) r.row call × ShowsLast note.origin call) calls
+  WasPut calls note = (other : ℕ) × (other + 1 < r.n) × (has_unit note.mask other ≡ true) × Happened (λ call. IsClaim (at_unit other) r.row call × ShowsLast note.origin call) calls
 
-  put-said : (calls : List Call) (note : Note) (us : List ℕ) (gs : List (Option Grant)) → Said calls us [] gs → is_put note (zip us gs) ≡ true → WasPut calls note
-  put-said calls note [] gs h e = absurd (cc)
-  put-said calls note (u ∷ us) [] h e = absurd (cc)
-  put-said calls note (u ∷ us) (None ∷ gs) h e = put-said calls note us gs h.1 e
-  put-said calls note (u ∷ us) (Some grant ∷ gs) h e = by (both-parts (has_unit note.mask u) (grant.last.0 == note.origin.0) (is_put note (zip us gs)) e) (put-said calls note us gs h.1)
+  put-said : (calls : List Call) (note : Note) (us : List ℕ) (gs : List (Option Grant)) → AllByRecursion (λ (u : ℕ). u < r.n - 1) us → Said calls us [] gs → is_put note (zip us gs) ≡ true → WasPut calls note
+  put-said calls note [] gs inside h e = absurd (cc)
+  put-said calls note (u ∷ us) [] inside h e = absurd (cc)
+  put-said calls note (u ∷ us) (None ∷ gs) inside h e = put-said calls note us gs inside.1 h.1 e
+  put-said calls note (u ∷ us) (Some grant ∷ gs) inside h e = by (both-parts (has_unit note.mask u) (grant.last.0 == note.origin.0) (is_put note (zip us gs)) e) (put-said calls note us gs inside.1 h.1)
     where
       by : ((has_unit note.mask u ≡ true) × ((grant.last.0 == note.origin.0) ≡ true)) ⊎ (is_put note (zip us gs) ≡ true) → (is_put note (zip us gs) ≡ true → WasPut calls note) → WasPut calls note
       by (inl (has, same)) rest =
           let numbers : grant.last.0 ≡ note.origin.0 = grind (arith, nat_tests) in
           let last : grant.last ≡ note.origin = ap (λ (k : ℕ). let x : Number = record { 0 = k } in x) numbers in (
             u,
+            (let low : u < r.n - 1 = inside.0 in omega (arith, low)),
             has,
             happened-map (λ call. IsClaim (at_unit u) r.row call × (grant_of call.answer.reply ≡ Some grant)) (λ call. IsClaim (at_unit u) r.row call × ShowsLast note.origin call)
                 (λ call x. (x.0, (grant, x.1, last))) calls h.0,
@@ -374,7 +376,7 @@ module _ (r : Rescue) where
           where
             reached : (has_unit note.mask unit ≡ true) ⊎ WasPut calls note → ⊥
             reached (inl has) = fine.0 unit (within unit has) has f.missing
-            reached (inr (other, has, shown)) = fine.1 other (within other has) has shown
+            reached (inr (other, inside, has, shown)) = fine.1 other (within other has) has shown
 
     torn-by : (hole : ℕ) (grant : Grant) → taken.row.parity ≡ Some grant → missing_in Pairs ≡ Some hole → (o : Option Note) → grant.seized ≡ o → is_torn_by o Pairs hole ≡ true → (note : Note) × Torn calls hole note
     torn-by hole grant there is None none e = absurd (cc)
@@ -395,7 +397,7 @@ module _ (r : Rescue) where
 
         reached : (has_unit note.mask hole ≡ true) ⊎ (is_put note Pairs ≡ true) → (has_unit note.mask hole ≡ true) ⊎ WasPut calls note
         reached (inl has) = inl has
-        reached (inr put) = inr (put-said calls note (units r.n) taken.row.wanted s.said put)
+        reached (inr put) = inr (put-said calls note (units r.n) taken.row.wanted (units-all r.n) s.said put)
 
     verdict-names : Named r.n r.row (lost_in (verdict r taken.row)) calls
     verdict-names = by taken.row.parity refl
