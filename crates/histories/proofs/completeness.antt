@@ -1,4 +1,5 @@
--- Completeness: what met no refusal is done.
+-- Completeness: what no reply refused is done.
+pub mod CompleteCauses
 pub mod CompleteHistory
 pub mod CompleteReads
 pub mod CompleteSteps

@@ -4,7 +4,7 @@ ghost use Rattle.histories.specs.HostLaws.{RequestsAreBounded, CausesAreMet};
 ghost use Rattle.histories.specs.Quotas.{RequestsKeepQuotas, TotalsCoverRequests};
 ghost use Rattle.histories.specs.Endings.{EndingsAreFilled};
 ghost use Rattle.histories.specs.Smallness.{NumbersStaySmall};
-ghost use Rattle.histories.specs.Completeness.{UnrefusedJobsAreDone, UnrefusedAttemptsGoOn};
+ghost use Rattle.histories.specs.Completeness.{PlainCallsAreUnrefused, UnrefusedJobsAreDone, UnrefusedAttemptsGoOn};
 ghost use Rattle.histories.specs.Hands.{HandsHoldAttempts, HandsKeepPhases};
 ghost use Rattle.histories.specs.Missing.{OneIsMissing};
 ghost use Rattle.histories.specs.Ids.{IdsAreApart};
@@ -56,14 +56,20 @@ pub fn numbers_stay_small()
     ensures { NumbersStaySmall }
 {}
 
-/// Along every history of a script whose total is at most 2^20 a read or a write that has parts, and whose host is not to
-/// stop in it, is done where its last attempt met no refusal.
+/// No reply refuses an attempt where none is a refusal by the rules of slots. The rules of attempts refuse less: one missing
+/// bay is no refusal, nor is the reply to a release that tells no number.
+pub fn plain_calls_are_unrefused()
+    ensures { PlainCallsAreUnrefused }
+{}
+
+/// Along every history of a script whose total is at most 2^20 a read or a write that has parts is done where no reply
+/// refused its last attempt, and its host did not stop in it.
 pub fn unrefused_jobs_are_done()
     ensures { UnrefusedJobsAreDone }
 {}
 
-/// And such a job is not tried again: after a call that is not refused, as none before it in its attempt was, the attempt
-/// is under way, or the job is done with it.
+/// And such a job is not tried again: after a call that refuses its attempt no more than the calls before it did, and with
+/// which its host does not stop in it, the attempt is under way, or the job is done with it.
 pub fn unrefused_attempts_go_on()
     ensures { UnrefusedAttemptsGoOn }
 {}

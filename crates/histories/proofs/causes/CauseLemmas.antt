@@ -1,6 +1,6 @@
 -- What stands behind a cause in the calls so far, and walks that keep these calls.
-use Rattle.std.proofs.Common.{◌≡◌, ◌≢◌, inl, inr, refl, sym, ap, subst, ◌∙◌, ℕ, ◌≤◌, ◌==◌, Bool, true, false, if◌then◌else◌, List, [], ◌∷◌, Option, Some, None, IfSome, Result, Ok, Err, option_map, unwrap_or, ok_or, arith}
-use Rattle.std.specs.Prelude.{IsNone, nat_le}
+use Rattle.std.proofs.Common.{◌≡◌, ◌≢◌, ◌⊎◌, inl, inr, refl, sym, ap, subst, ◌∙◌, ℕ, ◌≤◌, ◌==◌, Bool, true, false, if◌then◌else◌, List, [], ◌∷◌, Option, Some, None, IfSome, Result, Ok, Err, option_map, unwrap_or, ok_or, arith}
+use Rattle.std.specs.Prelude.{IsNone, is_some, nat_le}
 use Rattle.std.specs.List.{AllByRecursion}
 use Rattle.std.proofs.lemmas.Bool.{eq-eqb}
 use Rattle.std.proofs.lemmas.Bool.Decides.{nat_tests}
@@ -29,7 +29,7 @@ use Rattle.raid_base.specs.declared.jobs.Task.{Task}
 use Rattle.raid_base.specs.declared.jobs.Task.TheVariants as tasks
 use Rattle.raid_base.specs.Fits.{fits}
 use Rattle.raid_base.specs.Numbers.{next_number, draw}
-use Rattle.raid_base.specs.Replies.{grant_of}
+use Rattle.raid_base.specs.Replies.{grant_of, is_missing}
 use Rattle.raid_base.specs.Steps.{Steps, Asks, Draws, Ends, bind, go_on, Walk, Through, Stopped, Phase, run, errand_of}
 use Rattle.stripe_layout.specs.Placement.{parity_bay}
 use Rattle.attempts.specs.Taking.{Finish, Row, Taken, is_behind, behind_from, broken, refusal, with_grant, unless, taking, why, with_parity, shares, claim, claims}
@@ -37,8 +37,43 @@ use Rattle.attempts.specs.Releases.{releasing, end_as, released_steps, refused_s
 use Rattle.script_text.specs.Script.{Script}
 use Rattle.histories.specs.Progress.{Ending}
 use Rattle.histories.specs.Calls.{Happened, HappenedAfter, id_of, Answers}
-use Rattle.histories.specs.Causes.{IsFloorFrom, IsReadOrWrite, IsRead, IsBehind, IsMissingAt, IsLackingAt, IsGone, IsGranted, IsLacking, HasOwnCause, IsChanged, IsReleaseIn, IsPutIn, IsCauseIn}
+use Rattle.histories.specs.Causes.{IsFloorFrom, IsReadOrWrite, IsRead, IsBehind, IsMissingAt, IsLackingAt, IsGone, IsHeldBadly, IsFound, IsGranted, IsLacking, HasOwnCause, IsChange, IsChanged, IsReleaseIn, IsPutIn, IsCauseIn}
 use Rattle.histories.specs.Torn.{IsMissing}
+use Rattle.histories.specs.Completeness.{missing_in}
+
+-- a slot that was missing stays told
+pub missing-kept : (calls : List Call) (call : Call) → is_some (missing_in calls) ≡ true → is_some (missing_in (call ∷ calls)) ≡ true
+missing-kept calls call h = by (is_missing call.answer.reply) where
+  by : (b : Bool) → is_some (if b then Some call.bay else missing_in calls) ≡ true
+  by true = refl
+  by false = h
+
+pub missing-now : (calls : List Call) (call : Call) (floor : Number) → call.answer.reply ≡ replies.Missing floor → is_some (missing_in (call ∷ calls)) ≡ true
+missing-now calls call floor same =
+    subst (λ (r : Reply). is_some (if is_missing r then Some call.bay else missing_in calls) ≡ true) (sym same) refl
+
+-- a parity is not held, with a cell where one is wanted, which is so only after a slot was missing
+abbrev pub IsHeldBadlyAfter : ℕ → RowNo → List Call → Call → Type 0
+IsHeldBadlyAfter n row earlier call = (bad : IsHeldBadly n row call) × (bad.2 ≡ true → is_some (missing_in earlier) ≡ true)
+
+-- a change, in which a cell is wanted only so
+abbrev pub IsChangeAfter : Script → Task → RowNo → List Call → Call → Type 0
+IsChangeAfter script task row earlier call =
+    ¬ (HasOwnCause script task earlier call)
+    × ((IsHeldBadlyAfter script.n row earlier call × Happened (IsGranted script.n row) earlier) ⊎ (IsFound script.n row call × Happened (IsLacking script.n row) earlier))
+
+abbrev pub HasChanged : Script → Task → RowNo → List Call → Type 0
+HasChanged script task row [] = ⊥
+HasChanged script task row (call ∷ earlier) = IsChangeAfter script task row earlier call ⊎ HasChanged script task row earlier
+
+is-change : (script : Script) (task : Task) (row : RowNo) (earlier : List Call) (call : Call) → IsChangeAfter script task row earlier call → IsChange script task row earlier call
+is-change script task row earlier call (own, inl held) = (own, inl (held.0.0, held.1))
+is-change script task row earlier call (own, inr found) = (own, inr found)
+
+has-changed : (script : Script) (task : Task) (row : RowNo) (calls : List Call) → HasChanged script task row calls → IsChanged script task row calls
+has-changed script task row [] h = h
+has-changed script task row (call ∷ earlier) (inl h) = inl (is-change script task row earlier call h)
+has-changed script task row (call ∷ earlier) (inr h) = inr (has-changed script task row earlier h)
 
 -- the cause stands in these calls of an attempt of this task; that the host stops is no cause of an attempt
 abbrev pub Stands : Script → HostNo → Task → List Call → Cause → Type 0
@@ -49,7 +84,7 @@ Stands script host task calls (causes.Behind floor) = (script.mode ≡ Order) ×
 Stands script host task calls (causes.Fault bay) = Happened (λ call. (call.bay ≡ bay) × Answers replies.Fault call) calls
 Stands script host task calls (causes.Broken first second) = HappenedAfter (IsLackingAt script task second) (IsMissingAt first) calls × (first ≢ second)
 Stands script host task calls (causes.Gone bay) = IsGone script host bay task calls
-Stands script host task calls (causes.Changed row) = IsChanged script task row calls
+Stands script host task calls (causes.Changed row) = HasChanged script task row calls
 Stands script host task calls (causes.Released row) = (script.mode ≡ Lock) × IsRead task × Happened (IsReleaseIn row) calls
 Stands script host task calls (causes.Seized row) = Happened (IsPutIn row) calls
 Stands script host task calls (causes.Spent seen) = IsNone (next_number host seen)
@@ -63,7 +98,7 @@ stands-in script host e (causes.Behind floor) s = s
 stands-in script host e (causes.Fault bay) s = s
 stands-in script host e (causes.Broken first second) s = s
 stands-in script host e (causes.Gone bay) s = s
-stands-in script host e (causes.Changed row) s = s
+stands-in script host e (causes.Changed row) s = has-changed script e.job.task row e.calls s
 stands-in script host e (causes.Released row) s = s
 stands-in script host e (causes.Seized row) s = s
 stands-in script host e (causes.Spent seen) s = s
@@ -148,14 +183,14 @@ module _ {errand : Errand} {call : Call} where
   pub what-asked : IsReply errand call → call.ask.what ≡ errand.request
   what-asked is = ap (λ (e : Errand). e.request) is.asked
 
--- a host that stops has no other cause
+-- a host that stops has no other cause, and nothing is at its end
 abbrev pub IsStopCause : Ended → Type 0
-IsStopCause (ends.Read n) = Unit {0}
-IsStopCause (ends.Wrote n) = Unit {0}
+IsStopCause (ends.Read n) = ⊥
+IsStopCause (ends.Wrote n) = ⊥
 IsStopCause (ends.Part n made cause) = cause ≡ causes.Quit
-IsStopCause (ends.Recovered n closed lost) = Unit {0}
+IsStopCause (ends.Recovered n closed lost) = closed ≡ false
 IsStopCause (ends.Refused cause) = Unit {0}
-IsStopCause ends.Mended = Unit {0}
+IsStopCause ends.Mended = ⊥
 
 -- Whatever the calls that answer what is asked, by replies that fit, and whatever the host has seen where it draws: the end
 -- is Q of the calls, the newest first, and where the host stops before it the cause is that.
@@ -429,7 +464,8 @@ module _ (script : Script) (host : HostNo) (task : Task) where
         (λ none. absurd (stopped-refused (refusal least taken.missing e.bay call.answer.reply) (grant_of call.answer.reply) (with_grant keep taken e.bay) stop none)))
 
     pub caused-takes : (keep : Option Grant → Row → Row) (K : List Call → Taken → Type 0)
-        → ((calls : List Call) (taken : Taken) (call : Call) (bay : BayNo) (o : Option Grant) → K calls taken → K (call ∷ calls) (with_grant keep taken bay o))
+        → ((calls : List Call) (taken : Taken) (call : Call) (bay : BayNo) (o : Option Grant) → GrantOrGap taken.missing bay call.answer.reply o
+        → K calls taken → K (call ∷ calls) (with_grant keep taken bay o))
         → ((calls : List Call) (taken : Taken) → MissingTold taken.missing calls → K calls taken → Caused host FinishStands calls (f (Through taken)))
         → (es : List Errand) (calls : List Call) (taken : Taken) → AllByRecursion (Takes least) es → MissingTold taken.missing calls → K calls taken
         → Caused host FinishStands calls (bind (run (taking least keep) es taken) f)
@@ -439,7 +475,7 @@ module _ (script : Script) (host : HostNo) (task : Task) where
           given : (e : Errand) (cs : List Call) (t : Taken) (call : Call) → call.bay ≡ e.bay → MissingTold t.missing cs → K cs t → (o : Option (Option Grant)) → IfSome o (GrantOrGap t.missing e.bay call.answer.reply)
               → IfSome (option_map (with_grant keep t e.bay) o) (λ t. MissingTold t.missing (call ∷ cs) × K (call ∷ cs) t)
           given e cs t call at m k None g = tt
-          given e cs t call at m k (Some o) g = (with-missing keep t e.bay cs call at o g m, more cs t call e.bay o k)
+          given e cs t call at m k (Some o) g = (with-missing keep t e.bay cs call at o g m, more cs t call e.bay o g k)
 
           kept : (e : Errand) (cs : List Call) (t : Taken) (call : Call) → Takes least e → MissingTold t.missing cs × K cs t → IsReply e call
               → IfSome ((taking least keep).step t e call.answer.reply) (λ t. MissingTold t.missing (call ∷ cs) × K (call ∷ cs) t)

@@ -48,12 +48,12 @@ same-host : (a b : HostNo) → (a.0 == b.0) ≡ true → a ≡ b
 same-host a b e = let same : a.0 ≡ b.0 = grind (arith, nat_tests) in ap (λ (k : ℕ). record { 0 = k }) same
 
 -- what is left once numbers were drawn, or a reply was told
-settled-caused : (host : HostNo) (Q : List Call → Finish → Type 0) (calls : List Call) (seen : Number) (s : Steps Finish) → Caused host Q calls s → Caused host Q calls (settled host seen s).steps
+pub settled-caused : (host : HostNo) (Q : List Call → Finish → Type 0) (calls : List Call) (seen : Number) (s : Steps Finish) → Caused host Q calls s → Caused host Q calls (settled host seen s).steps
 settled-caused host Q calls seen (Asks e t c k) h = h
 settled-caused host Q calls seen (Draws k) h = settled-caused host Q calls (seen_drawn seen (draw host seen)) (k (draw host seen)) (h seen)
 settled-caused host Q calls seen (Ends f) h = h
 
-behind-caused : (host : HostNo) (Q : List Call → Finish → Type 0) (calls : List Call) (call : Call) (s : Steps Finish) → Caused host Q calls s
+pub behind-caused : (host : HostNo) (Q : List Call → Finish → Type 0) (calls : List Call) (call : Call) (s : Steps Finish) → Caused host Q calls s
     → ((e : Errand) → next_errand s ≡ Some e → IsReply e call) → next_errand s ≡ Some (errand_of call) → Caused host Q (call ∷ calls) (behind s call.answer.reply)
 behind-caused host Q calls call (Asks e t c k) h is asked = h.1 call (is e refl)
 behind-caused host Q calls call (Draws k) h is asked = cc
@@ -287,13 +287,13 @@ module _ (script : Script) (is : IsScript script) (host : HostNo) where
 
     -- the host stops in it
     stop-met : stops p ≡ true → (stop : Ended) → IsStopCause stop → Due p p.jobs (quit_end p.tries stop) []
-    stop-met stopped (ends.Read n) c = due-plain p p.jobs (job_ends.Read n) [] (λ x. tt)
-    stop-met stopped (ends.Wrote n) c = due-plain p p.jobs (job_ends.Wrote n) [] (λ x. tt)
+    stop-met stopped (ends.Read n) c = absurd c
+    stop-met stopped (ends.Wrote n) c = absurd c
     stop-met stopped (ends.Part n made cause) c =
         subst (λ (k : Cause). Due p p.jobs (job_ends.Part n made k) []) (sym c) (due-of (job_ends.Part n made causes.Quit) [] (quit-of stopped))
     stop-met stopped (ends.Recovered n closed lost) c = due-plain p p.jobs (job_ends.Recovered n closed lost) [] (λ x. tt)
     stop-met stopped (ends.Refused cause) c = due-of (job_ends.Gave p.tries causes.Quit) [] (quit-of stopped, refl, few)
-    stop-met stopped ends.Mended c = due-of (job_ends.Gave p.tries causes.Quit) [] (quit-of stopped, refl, few)
+    stop-met stopped ends.Mended c = absurd c
 
     asks-stand : (steps : Steps Finish) (stop : Ended) → IsStopCause stop → Caused host (FinishStands script host job.task) p.calls steps → (stopped : Bool) → stops p ≡ stopped → StandsWell (asks_on p steps stop stopped)
     asks-stand steps stop c caused true e =

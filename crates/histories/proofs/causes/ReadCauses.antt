@@ -134,7 +134,7 @@ module _ (script : Script) (host : HostNo) (task : Task) (reads : IsRead task) (
       → (row : RowNo) (bays : List BayNo) (calls : List Call) (taken : Taken) → MissingTold taken.missing calls
       → Caused host Ending calls (bind (run (sharing a keep) (shares id row bays) taken) f)
   shares-caused keep f on off row bays calls taken missed =
-      caused-takes script host task (behind_from script.mode id) f off keep (λ cs t. Unit {0}) (λ cs t call bay o k. tt) (λ cs t m k. on cs t m)
+      caused-takes script host task (behind_from script.mode id) f off keep (λ cs t. Unit {0}) (λ cs t call bay o g k. tt) (λ cs t m k. on cs t m)
       (shares id row bays) calls taken (shares-take script host task (behind_from script.mode id) id row (rightly row) bays) missed tt
 
   module _ (rest : Rows → Steps Finish) (rest_caused : (calls : List Call) (done : Rows) → MissingTold done.missing calls → Caused host Ending calls (rest done)) where

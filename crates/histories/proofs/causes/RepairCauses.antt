@@ -36,8 +36,8 @@ use Rattle.attempts.specs.Mending.{is_at, with_hold, good_grant, hold_of, mendin
 use Rattle.attempts.specs.Recovery.{whole_part, unseized_data, unseized_parity, granted_data, give_back, recover_refused, Verdict, Leaves, Sums, verdict, recovered_parity, recover_putting, closing, recover_put, recover_by, recover_drawn, recover_confirmed, is_as_before, stays_unless, stays, recover_confirming, units_seized, seize_units, parity_seized, recover_steps}
 use Rattle.script_text.specs.Script.{Script}
 use Rattle.histories.specs.Calls.{Happened}
-use Rattle.histories.specs.Causes.{IsMendClaim, IsGranted, IsLacking, is_held_well, IsHeldBadly, HasOwnCause}
-use Rattle.histories.proofs.causes.CauseLemmas.{Stands, IsReply, bay-asked, what-asked, IsTake, Caused, caused-go, caused-walk, caused-one, caused-draw, claim-takes, MissingTold, none-missing, missing-more, grant-there, ParityTold, parity-more, passed, any-errands, FinishStands, releases-caused, refuses, BehindRightly, never-behind, refusal-stands, unrefused-plain, else-stands, caused-takes, caused-parity, claims-take}
+use Rattle.histories.specs.Causes.{IsMendClaim, IsGranted, IsLacking, is_held_well, HasOwnCause}
+use Rattle.histories.proofs.causes.CauseLemmas.{IsHeldBadlyAfter, Stands, IsReply, bay-asked, what-asked, IsTake, Caused, caused-go, caused-walk, caused-one, caused-draw, claim-takes, MissingTold, none-missing, missing-more, grant-there, ParityTold, parity-more, passed, any-errands, FinishStands, releases-caused, refuses, BehindRightly, never-behind, refusal-stands, unrefused-plain, else-stands, caused-takes, caused-parity, claims-take}
 
 -- a put that was not done
 module _ (script : Script) (host : HostNo) (task : Task) (row : RowNo) (id n : Number) (cell : Cell) (bay : BayNo) where
@@ -58,9 +58,10 @@ module _ (script : Script) (host : HostNo) (task : Task) (row : RowNo) (id n : N
     by replies.Fitted same fit stop = cc
 
 -- a confirm that is not held
-pub held-badly : (n : ℕ) (row : RowNo) (id : Number) (call : Call) → IsReply (confirm id row false (parity_bay n row)) call → is_held call.answer.reply ≡ false → IsHeldBadly n row call
-held-badly n row id call is no_hold =
-    (bay-asked is, id, false, what-asked is, by call.answer.reply is.fit no_hold) where
+pub held-badly : (n : ℕ) (row : RowNo) (id : Number) (earlier : List Call) (call : Call) → IsReply (confirm id row false (parity_bay n row)) call → is_held call.answer.reply ≡ false
+    → IsHeldBadlyAfter n row earlier call
+held-badly n row id earlier call is no_hold =
+    ((bay-asked is, id, false, what-asked is, by call.answer.reply is.fit no_hold), λ e. cc) where
       by : (r : Reply) → fits_confirm false r ≡ true → is_held r ≡ false → is_held_well false r ≡ false
       by (replies.Held cell) fit e = cc
       by (replies.NoNote life) fit e = refl
@@ -132,7 +133,7 @@ module _ (script : Script) (host : HostNo) (target : BayNo) (id : Number) (row :
         mend-refuses (mend_releases m holds) (mend_why mend_confirm call.answer.reply (causes.Changed row)) (call ∷ calls)
         (else-stands script host (tasks.Rebuild target) (call ∷ calls) (refusal None None (parity_bay script.n row) call.answer.reply) (causes.Changed row)
         (refusal-stands script host (tasks.Rebuild target) calls mend_confirm call is None None (mend-floor mend_confirm.request) missed)
-        (λ none. inl (unrefused-plain script host (tasks.Rebuild target) calls mend_confirm call is None None (mend-floor mend_confirm.request) missed none, inl (held-badly script.n row id call is (step-none (is_held call.answer.reply) tt stop), granted))))
+        (λ none. inl (unrefused-plain script host (tasks.Rebuild target) calls mend_confirm call is None None (mend-floor mend_confirm.request) missed none, inl (held-badly script.n row id calls call is (step-none (is_held call.answer.reply) tt stop), granted))))
 
   -- the claims
   abbrev mend_claim : BayNo → Errand
@@ -238,7 +239,7 @@ module _ (script : Script) (host : HostNo) (id : Number) (row : RowNo) where
 
   recovered : (line : Row) (n : Number) (lost : Option ℕ) (calls : List Call) → Caused host Recovers calls (recover_put r line n lost (Through tt))
   recovered line n lost calls =
-      caused-walk host Recovers (λ e. Unit {0}) (λ cs u. Unit {0}) (closing n lost) (end_as (ends.Recovered n true lost)) (λ u. tt)
+      caused-walk host Recovers (λ e. Unit {0}) (λ cs u. Unit {0}) (closing n lost) (end_as (ends.Recovered n true lost)) (λ u. refl)
       (λ e cs u call p i is. tt) (λ cs u i. tt) (λ e cs u call p i is stop. tt) (give_back r (granted_data r line)) calls tt (any-errands (give_back r (granted_data r line))) tt
 
   recover-refuses : (line : Row) (cause : Cause) (calls : List Call) → Stands script host (tasks.Recover row) calls cause → Caused host Recovers calls (recover_refused r line cause)
@@ -269,7 +270,7 @@ module _ (script : Script) (host : HostNo) (id : Number) (row : RowNo) where
 
   changed-told : (calls : List Call) (call : Call) → IsReply recover_confirm call → (HasOwnCause script (tasks.Recover row) calls call → ⊥) → (o : Option Grant) → ParityTold script.n row o calls → is_as_before o call.answer.reply ≡ false
       → Stands script host (tasks.Recover row) (call ∷ calls) (causes.Changed row)
-  changed-told calls call is own (Some grant) told e = inl (own, inl (held-badly script.n row id call is e, told))
+  changed-told calls call is own (Some grant) told e = inl (own, inl (held-badly script.n row id calls call is e, told))
   changed-told calls call is own None told e =
       inl (own, inr (((bay-asked is, id, false, what-asked is), λ miss. not-missing call.answer.reply miss.0 miss.1 e), told))
 
@@ -293,7 +294,7 @@ module _ (script : Script) (host : HostNo) (id : Number) (row : RowNo) where
   seizes : (calls : List Call) (taken : Taken) → MissingTold taken.missing calls → ParityTold script.n row taken.row.parity calls → Caused host Recovers calls (seize_units r taken)
   seizes calls taken missed told =
       caused-takes script host (tasks.Recover row) None (units_seized r) (λ cs t e reply s. recover-refuses t.row (why None t e reply) cs s)
-      with_wanted (λ cs t. ParityTold script.n row t.row.parity cs) more (λ cs t missed told. recover-confirms cs t missed told)
+      with_wanted (λ cs t. ParityTold script.n row t.row.parity cs) (λ cs t call bay o g told. more cs t call bay o told) (λ cs t missed told. recover-confirms cs t missed told)
       (claims id row Seize true (bays_of script.n row (units script.n))) calls taken
       (claims-take script host (tasks.Recover row) None id row Seize true (recover-floor (Claim row id Seize 0 true)) (bays_of script.n row (units script.n)))
       missed told where

@@ -1,5 +1,5 @@
 -- The causes of writes.
-use Rattle.std.proofs.Common.{◌≡◌, inl, inr, refl, sym, ap, subst, ◌∙◌, ℕ, ◌==◌, Bool, true, false, if◌then◌else◌, List, [], ◌∷◌, ◌++◌, Option, Some, None, IfSome, option_map, map, zip}
+use Rattle.std.proofs.Common.{◌≡◌, is_some, inl, inr, refl, sym, ap, subst, ◌∙◌, ℕ, ◌==◌, Bool, true, false, if◌then◌else◌, List, [], ◌∷◌, ◌++◌, Option, Some, None, IfSome, option_map, map, zip}
 use Rattle.std.specs.List.{AllByRecursion}
 use Rattle.raid_base.specs.declared.numbers.BayNo.{BayNo}
 use Rattle.raid_base.specs.declared.numbers.HostNo.{HostNo}
@@ -39,7 +39,8 @@ use Rattle.histories.specs.Progress.{access}
 use Rattle.histories.specs.Calls.{Happened, id_of, Answers}
 use Rattle.histories.specs.Causes.{IsReadOrWrite, is_held_well, HasOwnCause, IsPutIn}
 use Rattle.histories.specs.Torn.{IsMissing}
-use Rattle.histories.proofs.causes.CauseLemmas.{Stands, IsReply, bay-asked, what-asked, IsStopCause, Caused, caused-walk, caused-one, caused-draw, some-none, any-errands, GrantOrGap, take-told, MissingTold, none-missing, missing-more, missing-again, grant-there, with-missing, ParityTold, lacking-missing, parity-more, EndStands, FinishStands, refuses, BehindRightly, behind-rightly, refusal-stands, unrefused-plain, else-stands, Takes, caused-takes, caused-parity, shares-take, claims-take}
+use Rattle.histories.specs.Completeness.{missing_in}
+use Rattle.histories.proofs.causes.CauseLemmas.{missing-kept, missing-now, Stands, IsReply, bay-asked, what-asked, IsStopCause, Caused, caused-walk, caused-one, caused-draw, some-none, any-errands, GrantOrGap, take-told, MissingTold, none-missing, missing-more, missing-again, grant-there, with-missing, ParityTold, lacking-missing, parity-more, EndStands, FinishStands, refuses, BehindRightly, behind-rightly, refusal-stands, unrefused-plain, else-stands, Takes, caused-takes, caused-parity, shares-take, claims-take}
 
 -- Puts
 abbrev IsPutFor : RowNo → Errand → Type 0
@@ -94,7 +95,12 @@ parted n puts = by puts.answered where
   by true = refl
   by false = tt
 
--- Confirms
+-- Confirms. What is lacking was so before a grant
+lacks-before : (gs : List (Option Grant)) (grant : Grant) → lacks (gs ++ Some grant ∷ []) ≡ true → lacks gs ≡ true
+lacks-before [] grant e = cc
+lacks-before (None ∷ gs) grant e = refl
+lacks-before (Some g ∷ gs) grant e = lacks-before gs grant e
+
 held-badly : (row : Row) (grant : Grant) (want : Bool) (r : Reply) → held_row row grant want (held_of r) ≡ None → is_held_well want r ≡ false
 held-badly row grant true (replies.Held None) e = refl
 held-badly row grant true (replies.Held (Some cell)) e = cc
@@ -239,18 +245,24 @@ module _ (script : Script) (host : HostNo) (task : Task) (plain : IsReadOrWrite 
   numbered Order rows calls = puts-rows id rows rows calls no_puts tt
   numbered Lock rows calls = λ seen. draws rows calls seen
 
-  -- Confirms. The parity of each row was claimed in these calls
+  -- Confirms. The parity of each row was claimed in these calls, and where another unit lacks some slot was missing
+  abbrev OthersTold : List Call → Row → Type 0
+  OthersTold calls row = lacks row.others ≡ true → is_some (missing_in calls) ≡ true
+
   abbrev RowTold : List Call → Row → Type 0
-  RowTold calls row = ParityTold script.n row.part.row row.parity calls
+  RowTold calls row = ParityTold script.n row.part.row row.parity calls × OthersTold calls row
+
+  row-more : (calls : List Call) (call : Call) (row : Row) → RowTold calls row → RowTold (call ∷ calls) row
+  row-more calls call row told = (parity-more script.n row.part.row row.parity calls call told.0, λ e. missing-kept calls call (told.1 e))
 
   rows-more : (calls : List Call) (call : Call) (rows : List Row) → AllByRecursion (RowTold calls) rows → AllByRecursion (RowTold (call ∷ calls)) rows
-  rows-more calls call rows h = all-weaken (RowTold calls) (RowTold (call ∷ calls)) (λ row told. parity-more script.n row.part.row row.parity calls call told) rows h
+  rows-more calls call rows h = all-weaken (RowTold calls) (RowTold (call ∷ calls)) (row-more calls call) rows h
 
   changed-told : (row : Row) (calls : List Call) (call : Call) → IsReply (row_confirm a row) call → (HasOwnCause script task calls call → ⊥) → (o : Option Grant) → ParityTold script.n row.part.row o calls
-      → confirmed_row row call.answer.reply o ≡ None → CauseStands (call ∷ calls) (causes.Changed row.part.row)
-  changed-told row calls call is own (Some grant) told stop =
-      inl (own, inl ((bay-asked is, id, lacks row.others, what-asked is, held-badly row grant (lacks row.others) call.answer.reply stop), told))
-  changed-told row calls call is own None told stop =
+      → OthersTold calls row → confirmed_row row call.answer.reply o ≡ None → CauseStands (call ∷ calls) (causes.Changed row.part.row)
+  changed-told row calls call is own (Some grant) told others stop =
+      inl (own, inl (((bay-asked is, id, lacks row.others, what-asked is, held-badly row grant (lacks row.others) call.answer.reply stop), others), told))
+  changed-told row calls call is own None told others stop =
       inl (own, inr (((bay-asked is, id, lacks row.others, what-asked is), λ miss. not-missing row call.answer.reply miss.0 miss.1 stop), told))
 
   confirm-stopped : (row : Row) (calls : List Call) (call : Call) (done : Rows) → IsReply (row_confirm a row) call → MissingTold done.missing calls → RowTold calls row
@@ -259,7 +271,8 @@ module _ (script : Script) (host : HostNo) (task : Task) (plain : IsReadOrWrite 
       else-stands script host task (call ∷ calls) (refusal least done.missing (parity_bay script.n row.part.row) call.answer.reply) (causes.Changed row.part.row)
       (refusal-stands script host task calls (row_confirm a row) call is least done.missing (rightly (row_confirm a row).request refl) missed)
       (λ none. changed-told row calls call is
-      (unrefused-plain script host task calls (row_confirm a row) call is least done.missing (rightly (row_confirm a row).request refl) missed none) row.parity told (unrefused (refusal least done.missing (parity_bay script.n row.part.row) call.answer.reply) stop none)) where
+      (unrefused-plain script host task calls (row_confirm a row) call is least done.missing (rightly (row_confirm a row).request refl) missed none) row.parity told.0 told.1
+      (unrefused (refusal least done.missing (parity_bay script.n row.part.row) call.answer.reply) stop none)) where
         no-row : (o : Option Row) → option_map (λ (r : Row). record done { rows = done.rows ++ r ∷ [] }) o ≡ None → o ≡ None
         no-row None e = refl
         no-row (Some r) e = cc
@@ -276,7 +289,7 @@ module _ (script : Script) (host : HostNo) (task : Task) (plain : IsReadOrWrite 
         → IfSome (option_map (λ (r : Row). record done { rows = done.rows ++ r ∷ [] }) o) (λ d. Caused host Ending (call ∷ calls) (confirm_rows a rows left d))
     confirm-passed row calls done call is missed own told None e = tt
     confirm-passed row calls done call is missed own told (Some r) e =
-        goes_on (call ∷ calls) (record done { rows = done.rows ++ r ∷ [] }) (still row.parity refl own) (rows-more calls call left told) where
+        goes_on (call ∷ calls) (record done { rows = done.rows ++ r ∷ [] }) (still row.parity refl own.0) (rows-more calls call left told) where
           still : (o : Option Grant) → row.parity ≡ o → ParityTold script.n row.part.row o calls → MissingTold done.missing (call ∷ calls)
           still None none lacking =
               missing-again done.missing calls call (missed.1 (parity_bay script.n row.part.row) (lacking-missing script.n row.part.row calls lacking) ∙ ap (λ (b : BayNo). Some b) (sym (bay-asked is))) missed
@@ -306,21 +319,27 @@ module _ (script : Script) (host : HostNo) (task : Task) (plain : IsReadOrWrite 
   -- Claims. What is known of the rows before and of the row in hand
   record Told (calls : List Call) (taken : Taken) : Type 0 where
     before : AllByRecursion (RowTold calls) taken.before
-    parity : RowTold calls taken.row
+    row : RowTold calls taken.row
 
   told-more : (calls : List Call) (taken : Taken) (call : Call) → Told calls taken → Told (call ∷ calls) taken
-  told-more calls taken call t = record { before = rows-more calls call taken.before t.before; parity = parity-more script.n taken.row.part.row taken.row.parity calls call t.parity }
+  told-more calls taken call t = record { before = rows-more calls call taken.before t.before; row = row-more calls call taken.row t.row }
 
-  told-wanted : (calls : List Call) (taken : Taken) (call : Call) (bay : BayNo) (o : Option Grant) → Told calls taken → Told (call ∷ calls) (with_grant with_wanted taken bay o)
-  told-wanted calls taken call bay (Some grant) t = let u = told-more calls taken call t in record { before = u.before; parity = u.parity }
-  told-wanted calls taken call bay None t = let u = told-more calls taken call t in record { before = u.before; parity = u.parity }
+  told-wanted : (calls : List Call) (taken : Taken) (call : Call) (bay : BayNo) (o : Option Grant) → GrantOrGap taken.missing bay call.answer.reply o → Told calls taken → Told (call ∷ calls) (with_grant with_wanted taken bay o)
+  told-wanted calls taken call bay (Some grant) g t = let u = told-more calls taken call t in record { before = u.before; row = u.row }
+  told-wanted calls taken call bay None g t = let u = told-more calls taken call t in record { before = u.before; row = u.row }
 
-  told-other : (calls : List Call) (taken : Taken) (call : Call) (bay : BayNo) (o : Option Grant) → Told calls taken → Told (call ∷ calls) (with_grant with_other taken bay o)
-  told-other calls taken call bay (Some grant) t = let u = told-more calls taken call t in record { before = u.before; parity = u.parity }
-  told-other calls taken call bay None t = let u = told-more calls taken call t in record { before = u.before; parity = u.parity }
+  told-granted : (calls : List Call) (taken : Taken) (call : Call) (bay : BayNo) (grant : Grant) → Told calls taken → Told (call ∷ calls) (with_grant with_other taken bay (Some grant))
+  told-granted calls taken call bay grant t =
+      let u = told-more calls taken call t in
+      record { before = u.before; row = ((u.row).0, λ e. (u.row).1 (lacks-before taken.row.others grant e)) }
+
+  told-other : (calls : List Call) (taken : Taken) (call : Call) (bay : BayNo) (o : Option Grant) → GrantOrGap taken.missing bay call.answer.reply o → Told calls taken → Told (call ∷ calls) (with_grant with_other taken bay o)
+  told-other calls taken call bay (Some grant) g t = told-granted calls taken call bay grant t
+  told-other calls taken call bay None g t =
+      let u = told-more calls taken call t in record { before = u.before; row = ((u.row).0, λ e. missing-now calls call g.0 g.1) }
 
   told-rows : (calls : List Call) (taken : Taken) → Told calls taken → AllByRecursion (RowTold calls) (row_ended taken).rows
-  told-rows calls taken t = all-append (RowTold calls) taken.before (taken.row ∷ []) t.before (t.parity, tt)
+  told-rows calls taken t = all-append (RowTold calls) taken.before (taken.row ∷ []) t.before (t.row, tt)
 
   stops : (calls : List Call) (taken : Taken) (e : Errand) (r : Reply) → CauseStands calls (why least taken e r) → Caused host Ending calls (write_stopped a taken e r)
   stops calls taken e r s = refuses script host task (write_releases a (taken.before ++ taken.row ∷ [])) (why least taken e r) calls s
@@ -354,12 +373,13 @@ module _ (script : Script) (host : HostNo) (task : Task) (plain : IsReadOrWrite 
         → Caused host Ending (call ∷ calls) (share_stopped a rest taken e.bay o)
     share-ended e calls taken call at missed t (Some cause) s gap = refuses script host task (write_releases a (taken.before ++ taken.row ∷ [])) cause (call ∷ calls) s
     share-ended e calls taken call at missed t None s gap =
-        claims-wanted true (call ∷ calls) (with_grant with_other taken e.bay None) (with-missing script host task with_other taken e.bay calls call at None (gap refl) missed) (told-other calls taken call e.bay None t)
+        claims-wanted true (call ∷ calls) (with_grant with_other taken e.bay None) (with-missing script host task with_other taken e.bay calls call at None (gap refl) missed)
+        (told-other calls taken call e.bay None (gap refl) t)
 
     until-kept : (e : Errand) (calls : List Call) (taken : Taken) (call : Call) → MissingTold taken.missing calls → Told calls taken → (o : Option Grant) → grant_of call.answer.reply ≡ o
         → IfSome (option_map (λ grant. with_grant with_other taken e.bay (Some grant)) o) (λ t. MissingTold t.missing (call ∷ calls) × Told (call ∷ calls) t)
     until-kept e calls taken call missed t None same = tt
-    until-kept e calls taken call missed t (Some grant) same = (missing-more taken.missing calls call (grant-there call grant same) missed, told-other calls taken call e.bay (Some grant) t)
+    until-kept e calls taken call missed t (Some grant) same = (missing-more taken.missing calls call (grant-there call grant same) missed, told-granted calls taken call e.bay grant t)
 
     no-grant : (taken : Taken) (bay : BayNo) (o : Option Grant) → option_map (λ grant. with_grant with_other taken bay (Some grant)) o ≡ None → o ≡ None
     no-grant taken bay None e = refl
@@ -393,9 +413,9 @@ module _ (script : Script) (host : HostNo) (task : Task) (plain : IsReadOrWrite 
           on : (call : Call) (o : Option Grant) → MissingTold (with_grant with_parity (begun part done) (parity_bay script.n part.row) o).missing (call ∷ calls) → ParityTold script.n part.row o (call ∷ calls)
               → Caused host Ending (call ∷ calls) (parity_claimed a rest (Through (with_grant with_parity (begun part done) (parity_bay script.n part.row) o)))
           on call (Some grant) m p =
-              claims-row (call ∷ calls) (with_grant with_parity (begun part done) (parity_bay script.n part.row) (Some grant)) m (record { before = rows-more calls call done.rows told; parity = p }) (Some grant) (plan_of a part)
+              claims-row (call ∷ calls) (with_grant with_parity (begun part done) (parity_bay script.n part.row) (Some grant)) m (record { before = rows-more calls call done.rows told; row = (p, λ e. cc) }) (Some grant) (plan_of a part)
           on call None m p =
-              claims-row (call ∷ calls) (with_grant with_parity (begun part done) (parity_bay script.n part.row) None) m (record { before = rows-more calls call done.rows told; parity = p }) None (plan_of a part)
+              claims-row (call ∷ calls) (with_grant with_parity (begun part done) (parity_bay script.n part.row) None) m (record { before = rows-more calls call done.rows told; row = (p, λ e. cc) }) None (plan_of a part)
 
   rows-caused : (left : List RowPart) (calls : List Call) (done : Rows) → MissingTold done.missing calls → AllByRecursion (RowTold calls) done.rows → Caused host Ending calls (claim_rows a left done)
   rows-caused [] calls done missed told = confirms done.rows done.rows calls (record done { rows = [] }) missed told
