@@ -6,7 +6,7 @@ ghost use Rattle.histories.specs.Endings.{EndingsAreFilled};
 ghost use Rattle.histories.specs.Smallness.{NumbersStaySmall};
 ghost use Rattle.histories.specs.Completeness.{PlainCallsAreUnrefused, UnrefusedJobsAreDone, UnrefusedAttemptsGoOn};
 ghost use Rattle.histories.specs.Hands.{HandsHoldAttempts, HandsKeepPhases};
-ghost use Rattle.histories.specs.Missing.{OneIsMissing};
+ghost use Rattle.histories.specs.Missing.{OneIsMissing, RebuildsMeetNoGone};
 ghost use Rattle.histories.specs.Ids.{IdsAreApart};
 ghost use Rattle.histories.specs.Accesses.{AccessesAreCovered};
 
@@ -89,6 +89,11 @@ pub fn hands_keep_phases()
 /// One bay is missing at most: after every history of a script two bays that have a slot without a cell are the same.
 pub fn one_bay_is_missing()
     ensures { OneIsMissing }
+{}
+
+/// So a rebuild meets no slot that is gone: in every history of a script none ends with that cause.
+pub fn rebuilds_meet_no_gone()
+    ensures { RebuildsMeetNoGone }
 {}
 
 /// No two attempts have one id: after every history of a script each id that was asked with is its host's, who has seen

@@ -1,5 +1,5 @@
 -- What a host keeps to while it goes through its jobs: all bays but the one that is gone have all their cells, and so has
--- that one in the rows that its rebuild has left behind.
+-- that one in the rows that its rebuild has left behind; and a bay without a device is gone and not yet fitted.
 use Rattle.std.proofs.Common.{◌≡◌, ℕ, ◌+◌, ◌<◌, ◌==◌, ◌||◌, ◌&&◌, not, Bool, true, false, List, [], ◌∷◌, drop, Option, Some, None, Result, Ok, Err, refl, sym, ap, subst, ◌∙◌, arith}
 use Rattle.std.specs.List.{AllByRecursion}
 use Rattle.std.proofs.lemmas.Bool.Decides.{nat_tests}
@@ -65,12 +65,18 @@ mends-gone bay (Some gone) h = by gone.fitted refl h
         let same : gone.bay.0 ≡ bay.0 = grind (arith, nat_tests) in
         is-gone-bay bay true gone same e
 
--- Here says which slots have a cell
-module _ (script : Script) (is : IsScript script) (host : HostNo) (Here : BayNo → RowNo → Type 0) where
+-- whether what is gone was fitted
+abbrev pub is_fitted : Option Gone → Bool
+is_fitted None = false
+is_fitted (Some gone) = gone.fitted
+
+-- Here says which slots have a cell, and Empty which bays have no device
+module _ (script : Script) (is : IsScript script) (host : HostNo) (Here : BayNo → RowNo → Type 0) (Empty : BayNo → Type 0) where
   -- the host's jobs, and the bays that are not gone
   pub record Sound (p : Progress) : Type 0 where
     pub tasks : AllByRecursion (λ (job : Job). IsTask script host job.task) p.jobs
     pub others : (at : BayNo) (row : RowNo) → at.0 < script.n → row.0 < script.rows → (IsGone at p.gone → ⊥) → Here at row
+    pub lost : (at : BayNo) → Empty at → p.gone ≡ Some (record { bay = at; fitted = false })
     pub row : p.row < script.rows
 
   -- a rebuild is of the bay that is gone and fitted, and has filled the rows before
@@ -116,7 +122,7 @@ module _ (script : Script) (is : IsScript script) (host : HostNo) (Here : BayNo 
   rest-tasks (job ∷ jobs) h = h.1
 
   next-sound : (p : Progress) (e : JobEnd) (read : List Content) → Sound p → Sound (next_job (with_ending p e read))
-  next-sound p e read s = record { tasks = rest-tasks p.jobs s.tasks; others = s.others; row = let least = is.rows_least in omega (arith, least) }
+  next-sound p e read s = record { tasks = rest-tasks p.jobs s.tasks; others = s.others; lost = s.lost; row = let least = is.rows_least in omega (arith, least) }
 
   -- where it goes on with these jobs
   abbrev pub GoesOn : List Job → (Progress → Progress) → Type 0
@@ -134,7 +140,7 @@ module _ (script : Script) (is : IsScript script) (host : HostNo) (Here : BayNo 
 
     tries-with : Ready job.task p.gone p.row → (d : Result Number Spent) → draw host p.seen ≡ d → Safe (try_with script host job.task rest (one_more p) d)
     tries-with ready (Ok id) e = record {
-      sound = record { tasks = s.tasks; others = s.others; row = s.row };
+      sound = record { tasks = s.tasks; others = s.others; lost = s.lost; row = s.row };
       work = subst (λ (js : List Job). SafeSteps js p.gone p.row (settled host id (attempt script host id p.row job.task)).steps) (sym first)
           (record {
             ready = ready;
@@ -144,7 +150,7 @@ module _ (script : Script) (is : IsScript script) (host : HostNo) (Here : BayNo 
                 (attempt-mends script is host id (subst IsDrawn e (draw-within host p.seen)) p.row job.task aim);
           });
     }
-    tries-with ready (Err spent) e = skips (one_more p) (job_ends.Gave (p.tries + 1) (causes.Spent spent.seen)) first (record { tasks = s.tasks; others = s.others; row = s.row })
+    tries-with ready (Err spent) e = skips (one_more p) (job_ends.Gave (p.tries + 1) (causes.Spent spent.seen)) first (record { tasks = s.tasks; others = s.others; lost = s.lost; row = s.row })
 
     pub tries : Ready job.task p.gone p.row → Safe (try_task script host job.task rest p)
     tries ready = tries-with ready (draw host p.seen) refl
@@ -158,11 +164,11 @@ module _ (script : Script) (is : IsScript script) (host : HostNo) (Here : BayNo 
     parts-begin task same ready (Err fault) = skips p (parts_end fault) first s
 
     loses : (bay : BayNo) → host.0 ≡ 0 → (gone : Option Gone) → p.gone ≡ gone → Safe (lose_job rest p bay gone)
-    loses bay own None none = record { sound = record { tasks = s.tasks; others = s.others; row = s.row }; work = (own, none) }
+    loses bay own None none = record { sound = record { tasks = s.tasks; others = s.others; lost = s.lost; row = s.row }; work = (own, none) }
     loses bay own (Some gone) some = skips p (job_ends.StillMissing gone.bay) first s
 
     fits-one : (bay : BayNo) → host.0 ≡ 0 → (lost : Bool) → is_gone bay false p.gone ≡ lost → Safe (fit_job rest p bay lost)
-    fits-one bay own true e = record { sound = record { tasks = s.tasks; others = s.others; row = s.row }; work = (own, fits-gone bay p.gone e) }
+    fits-one bay own true e = record { sound = record { tasks = s.tasks; others = s.others; lost = s.lost; row = s.row }; work = (own, fits-gone bay p.gone e) }
     fits-one bay own false e = skips p (job_ends.NotLost bay) first s
 
     rebuilds : (bay : BayNo) → job.task ≡ tasks.Rebuild bay → p.row ≡ 0 → (fitted : Bool) → is_gone bay true p.gone ≡ fitted → Safe (rebuild_job script host rest p bay fitted)
@@ -181,12 +187,12 @@ module _ (script : Script) (is : IsScript script) (host : HostNo) (Here : BayNo 
     starts start = starts-as start job.task refl aim
 
   pub start-safe : (jobs : List Job) → GoesOn jobs (start_jobs script host jobs)
-  start-safe [] p none start s = record { sound = record { tasks = s.tasks; others = s.others; row = s.row }; work = tt }
+  start-safe [] p none start s = record { sound = record { tasks = s.tasks; others = s.others; lost = s.lost; row = s.row }; work = tt }
   start-safe (job ∷ jobs) p first start s = starts (start_jobs script host jobs) job jobs (start-safe jobs) p first s start
 
   -- A job ends
   on-safe : (q : Progress) (stopped : Bool) → Sound (next_job q) → Safe (go_on script host q stopped)
-  on-safe q true s = record { sound = record { tasks = s.tasks; others = s.others; row = s.row }; work = tt }
+  on-safe q true s = record { sound = record { tasks = s.tasks; others = s.others; lost = s.lost; row = s.row }; work = tt }
   on-safe q false s = start-safe (drop 1 q.jobs) (next_job q) refl refl s
 
   pub ended-safe : (p : Progress) (e : JobEnd) (read : List Content) → Sound p → Safe (job_ended script host p e read)
@@ -198,7 +204,7 @@ module _ (script : Script) (is : IsScript script) (host : HostNo) (Here : BayNo 
   ReadyFirst (job ∷ jobs) known row = Ready job.task known row
 
   again-safe : (p : Progress) (js : List Job) → p.jobs ≡ js → Sound p → ReadyFirst js p.gone p.row → Safe (try_again script host p (task_of js))
-  again-safe p [] same s ready = record { sound = record { tasks = s.tasks; others = s.others; row = s.row }; work = tt }
+  again-safe p [] same s ready = record { sound = record { tasks = s.tasks; others = s.others; lost = s.lost; row = s.row }; work = tt }
   again-safe p (job ∷ jobs) same s ready =
       tries (start_jobs script host (drop 1 p.jobs)) job jobs
       (λ q left start sound. start-safe (drop 1 p.jobs) q (left ∙ sym (ap (drop 1) same)) start sound)
@@ -241,11 +247,14 @@ module _ (script : Script) (is : IsScript script) (host : HostNo) (Here : BayNo 
   mended-safe p job jobs first bay task s gone below true e =
       let rows : p.row + 1 ≡ script.rows = grind (arith, nat_tests) in
       let there = all-there p bay s gone (λ r less. below r (omega (arith, less, rows))) in
-      ended-safe (record p { gone = None }) job_ends.Rebuilt [] (record { tasks = s.tasks; others = λ at row within less none. there at row within less; row = s.row })
+      ended-safe (record p { gone = None }) job_ends.Rebuilt [] (record { tasks = s.tasks; others = λ at row within less none. there at row within less; lost = λ at bare. absurd (unfitted at (s.lost at bare)); row = s.row })
+    where
+      unfitted : (at : BayNo) → p.gone ≡ Some (record { bay = at; fitted = false }) → ⊥
+      unfitted at out = let both : false ≡ true = ap is_fitted (sym out ∙ gone) in cc
   mended-safe p job jobs first bay task s gone below false e =
       let before = s.row in
       let more : p.row + 1 < script.rows = grind (arith, nat_tests) in
-      more-safe p (next_row p) refl s (record { tasks = s.tasks; others = s.others; row = more })
+      more-safe p (next_row p) refl s (record { tasks = s.tasks; others = s.others; lost = s.lost; row = more })
       (subst (λ (js : List Job). ReadyFirst js p.gone (p.row + 1)) (sym first)
       (subst (λ (t : Task). Ready t p.gone (p.row + 1)) (sym task) (gone, below)))
       (stops p)
@@ -279,19 +288,20 @@ module _ (script : Script) (is : IsScript script) (host : HostNo) (Here : BayNo 
       go : (stopped : Bool) → Safe (asks_on p (Asks e t c k) t stopped)
       go true =
           let n = next-sound p (quit_end p.tries t) [] s in
-          record { sound = record { tasks = n.tasks; others = n.others; row = n.row }; work = tt }
+          record { sound = record { tasks = n.tasks; others = n.others; lost = n.lost; row = n.row }; work = tt }
       go false = record {
-        sound = record { tasks = s.tasks; others = s.others; row = s.row };
+        sound = record { tasks = s.tasks; others = s.others; lost = s.lost; row = s.row };
         work = subst (λ (xs : List Job). SafeSteps xs p.gone p.row (Asks e t c k)) (sym same) f;
       }
-  left-safe p s (job ∷ jobs) same (Draws k) f = record { sound = record { tasks = s.tasks; others = s.others; row = s.row }; work = tt }
+  left-safe p s (job ∷ jobs) same (Draws k) f = record { sound = record { tasks = s.tasks; others = s.others; lost = s.lost; row = s.row }; work = tt }
   left-safe p s (job ∷ jobs) same (Ends f) h = attempt-safe p job jobs same s h.ready f.contents f.ended (λ e. h.here (h.mends e))
 
   -- before its first job
-  pub begins-safe : ((at : BayNo) (row : RowNo) → at.0 < script.n → row.0 < script.rows → Here at row) → Safe (at_start script host)
-  begins-safe all =
+  pub begins-safe : ((at : BayNo) (row : RowNo) → at.0 < script.n → row.0 < script.rows → Here at row) → ((at : BayNo) → Empty at → ⊥) → Safe (at_start script host)
+  begins-safe all none =
       start-safe (jobs_of script host) (before_start script host) refl refl (record {
         tasks = host-tasks script is host;
-        others = λ at row within below none. all at row within below;
+        others = λ at row within below free. all at row within below;
+        lost = λ at bare. absurd (none at bare);
         row = let least = is.rows_least in omega (arith, least);
       })

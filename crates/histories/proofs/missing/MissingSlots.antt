@@ -4,6 +4,7 @@ use Rattle.std.specs.List.{slice_set}
 use Rattle.std.proofs.lemmas.List.{get_or-set_same}
 use Rattle.raid_base.specs.declared.numbers.Number.{Number}
 use Rattle.raid_base.specs.declared.numbers.RowNo.{RowNo}
+use Rattle.raid_base.specs.declared.cells.Cell.{Cell}
 use Rattle.raid_base.specs.declared.messages.Mode.{Mode}
 use Rattle.raid_base.specs.declared.messages.Mode.TheVariants.{Lock, Order}
 use Rattle.raid_base.specs.declared.messages.How.{How}
@@ -19,7 +20,7 @@ use Rattle.raid_base.specs.Numbers.{number, greater}
 use Rattle.raid_base.specs.Replies.{grant_of, is_done}
 use Rattle.slot_rules.specs.declared.Reader.{Reader}
 use Rattle.slot_rules.specs.Slots.{Slot, Bay, bare_slot, slot_of, reader_note}
-use Rattle.slot_rules.specs.Rules.{SlotOutcome, Outcome, keeps, reads, wanted_cell, slot_floor, missing_floor, note_id, is_reader, may_seize, young_note, is_same_host, share_granted_lock, share_lock, share_granted_order, share_unnoted, share_order, share_by, share_at, share_rule, claim_granted, is_late, claim_noted, claim_at, seize_granted, seize_unread, seize_blank, seize_noted, claim_rule, confirm_missing, confirm_rule, put_done, release_reader, release_rule, rule_of}
+use Rattle.slot_rules.specs.Rules.{SlotOutcome, Outcome, keeps, reads, wanted_cell, slot_floor, missing_floor, note_id, is_reader, may_seize, young_note, is_same_host, share_granted_lock, share_lock, share_granted_order, share_unnoted, share_order, share_by, share_at, share_rule, claim_granted, is_late, claim_noted, claim_at, seize_granted, seize_unread, seize_blank, seize_noted, claim_rule, confirm_missing, confirm_rule, put_done, release_reader, release_rule, fit_rule, rule_of, rule}
 use Rattle.slot_rules.specs.Serving.{row_of, slot_rule}
 use Rattle.slot_rules.proofs.TableParts.{rule_of-row}
 
@@ -211,3 +212,49 @@ filled-there bay ask fails what row is within =
     let o : SlotOutcome = slot_rule bay (slot_of bay row) ask fails what in
     subst (λ (x : Outcome). is_filled what x.reply ≡ true → is_some (slot_of x.bay row).cell ≡ true) (sym (rule_of-row bay ask fails what row is))
     (λ h. subst (λ (s : Slot). is_some s.cell ≡ true) (sym (get_or-set_same bay.slots row.0 o.slot (bare_slot (number 0)) within)) ((slot-fills bay (slot_of bay row) ask fails what).filled h))
+
+-- a request of a row leaves the device, and once one was fitted it is there
+pub device-stays : (bay : Bay) (ask : Ask) (fails : Bool) (what : Request) → is_some (row_of what) ≡ true → (rule_of bay ask fails what).bay.empty ≡ bay.empty
+device-stays bay ask fails (Share row id want) rowed = refl
+device-stays bay ask fails (Claim row id how mask want) rowed = refl
+device-stays bay ask fails (Confirm row id want) rowed = refl
+device-stays bay ask fails (Put row id n cell) rowed = refl
+device-stays bay ask fails (Release row id n) rowed = refl
+device-stays bay ask fails Lose rowed = no-fill rowed
+device-stays bay ask fails Fit rowed = no-fill rowed
+
+pub fitted-there : (bay : Bay) (b : Bool) → bay.empty ≡ b → (fit_rule bay b).bay.empty ≡ true → ⊥
+fitted-there bay true e h = no-fill h
+fitted-there bay false e h = no-fill (sym e ∙ h)
+
+-- what a claim to mend finds where the device is there: the slot is not missing, and where it has a cell the grant shows it
+pub record Mendable (slot : Slot) (reply : Reply) : Type 0 where
+  pub present : (floor : Number) → reply ≡ Missing floor → ⊥
+  pub shown : (grant : Grant) → grant_of reply ≡ Some grant → is_some slot.cell ≡ true → is_some grant.cell ≡ true
+
+abbrev cell_of : Option Grant → Option Cell
+cell_of None = None
+cell_of (Some grant) = grant.cell
+
+unshown : (slot : Slot) (reply : Reply) → grant_of reply ≡ None → ((floor : Number) → reply ≡ Missing floor → ⊥) → Mendable slot reply
+unshown slot reply none there = record { present = there; shown = λ grant e. absurd (let both : None ≡ Some grant = sym none ∙ e in cc) }
+
+mend-read : (bay : Bay) (slot : Slot) (ask : Ask) (id : Number) (mask : ℕ) (b : Bool) → Mendable slot (if b then keeps slot Fault else claim_granted bay slot ask id mask true).reply
+mend-read bay slot ask id mask true = unshown slot Fault refl (λ floor e. cc)
+mend-read bay slot ask id mask false = record {
+  present = λ floor e. cc;
+  shown = λ grant e there. (let same : slot.cell ≡ grant.cell = ap cell_of e in subst (λ (c : Option Cell). is_some c ≡ true) same there);
+}
+
+mend-noted : (bay : Bay) (slot : Slot) (ask : Ask) (id : Number) (mask : ℕ) (fails : Bool) (note : Option Note) (reader : Option Reader) →
+    Mendable slot (claim_noted bay slot ask id Mend mask true fails note reader).reply
+mend-noted bay slot ask id mask fails (Some note) reader = unshown slot (Busy note) refl (λ floor e. cc)
+mend-noted bay slot ask id mask fails None (Some reader) = unshown slot (Busy (reader_note reader)) refl (λ floor e. cc)
+mend-noted bay slot ask id mask fails None None = mend-read bay slot ask id mask (is_some (wanted_cell true slot) && fails)
+
+pub mends-there : (bay : Bay) (ask : Ask) (fails : Bool) (row : RowNo) (id : Number) (mask : ℕ) → ask.what ≡ Claim row id Mend mask true → bay.empty ≡ false →
+    Mendable (slot_of bay row) (rule bay ask fails).reply
+mends-there bay ask fails row id mask what there =
+    subst (λ (w : Request). Mendable (slot_of bay row) (rule_of bay ask fails w).reply) (sym what)
+    (subst (λ (b : Bool). Mendable (slot_of bay row) (claim_at bay (slot_of bay row) ask id Mend mask true fails (if b then Some bay.high else None)).reply) (sym there)
+    (mend-noted bay (slot_of bay row) ask id mask fails (slot_of bay row).note (find (λ reader. not (is_reader id reader)) (slot_of bay row).readers)))

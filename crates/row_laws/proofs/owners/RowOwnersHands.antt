@@ -150,7 +150,7 @@ module _ (script : Script) (is : IsScript script) where
   others-lose-not : (earlier : List Call) (call : Call) → IsHistory script earlier → IsNext script earlier call → (call.ask.host.0 ≡ 0 → ⊥) → call.ask.what ≡ Lose → ⊥
   others-lose-not earlier call along next other what =
       let p : Progress = progress_at script call.ask.host earlier in
-      let rowed = asks-rows script is call.ask.host (λ at row. Unit {0}) (λ at row. Unit {0}) p.jobs p.gone p.row p.work (errand_of call) call.answer.reply other
+      let rowed = asks-rows script is call.ask.host (λ at row. Unit {0}) (λ at row. Unit {0}) (λ at. ⊥) (λ at. ⊥) p.jobs p.gone p.row p.work (errand_of call) call.answer.reply other
       (every-host script is earlier along call.ask.host).work (asked-errand script earlier call next) in
       let bad : false ≡ true = sym (ap (λ (w : Request). is_some (row_of w)) what) ∙ rowed in
       cc

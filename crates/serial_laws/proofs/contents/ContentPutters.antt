@@ -34,7 +34,7 @@ use Rattle.row_laws.specs.Hands.{HasHand, calls_at}
 use Rattle.row_laws.specs.Holding.{HasNote, CameFrom, GivesNothing, IsRelease}
 use Rattle.row_laws.proofs.hands.HandMoves.{may-next, id-is-own}
 use Rattle.histories.proofs.missing.MissingHosts.{IsGone, Ready, SafeWork, Safe}
-use Rattle.histories.proofs.missing.MissingBays.{Here, operator-safe}
+use Rattle.histories.proofs.missing.MissingBays.{Here, Empty, operator-safe}
 use Rattle.row_laws.proofs.owners.OwnedPuts.{all-in}
 use Rattle.row_laws.proofs.owners.RowOwnersSlots.{origins}
 use Rattle.row_laws.proofs.owners.RowOwnersCalls.{has-noted, taking-frees}
@@ -108,17 +108,17 @@ module _ (script : Script) (is : IsScript script) (earlier : List Call) (call : 
     aim : IsTask script call.ask.host (tasks.Rebuild bay)
     aim = subst (IsTask script call.ask.host) mends h.hand.is
 
-    safe : Safe script is call.ask.host (Here script is earlier) (Now)
+    safe : Safe script is call.ask.host (Here script is earlier) (Empty script is earlier) (Now)
     safe = operator-safe script is earlier along.0 call.ask.host (aim).0
 
     gone-is : (Now).gone ≡ Some (record { bay = bay; fitted = true })
-    gone-is = by (Now).jobs h.hand.first (subst (λ (w : Work). SafeWork script is call.ask.host (Here script is earlier) (Now).jobs (Now).gone (Now).row w) h.work (safe).work)
+    gone-is = by (Now).jobs h.hand.first (subst (λ (w : Work). SafeWork script is call.ask.host (Here script is earlier) (Empty script is earlier) (Now).jobs (Now).gone (Now).row w) h.work (safe).work)
       where
-        by : (jobs : List Job) → task_of jobs ≡ Some h.hand.task → SafeWork script is call.ask.host (Here script is earlier) jobs (Now).gone (Now).row (Trying steps) → (Now).gone ≡ Some (record { bay = bay; fitted = true })
+        by : (jobs : List Job) → task_of jobs ≡ Some h.hand.task → SafeWork script is call.ask.host (Here script is earlier) (Empty script is earlier) jobs (Now).gone (Now).row (Trying steps) → (Now).gone ≡ Some (record { bay = bay; fitted = true })
         by [] none w = absurd w
         by (job ∷ jobs) first w =
             let same : job.task ≡ tasks.Rebuild bay = same-some job.task h.hand.task first ∙ mends in
-            (subst (λ (t : Task). Ready script is call.ask.host (Here script is earlier) t (Now).gone (Now).row) same w.ready).0
+            (subst (λ (t : Task). Ready script is call.ask.host (Here script is earlier) (Empty script is earlier) t (Now).gone (Now).row) same w.ready).0
 
     -- the parity is there, where the rebuild is of another bay
     pub parity-there : (bay ≡ parity_bay script.n row → ⊥) → cell_at script earlier row (parity_bay script.n row) ≡ None → ⊥
