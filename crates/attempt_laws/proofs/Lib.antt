@@ -1,2 +1,3 @@
+pub mod calm
 pub mod leftovers
 pub mod lone

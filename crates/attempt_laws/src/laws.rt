@@ -1,6 +1,7 @@
 //! Laws of attempts, each the contract of a function without a body.
 ghost use Rattle.histories.specs.Leftovers.{RefusedLeaveNothing};
 ghost use Rattle.attempt_laws.specs.Lone.{LoneHostsAreDone};
+ghost use Rattle.attempt_laws.specs.Calm.{CalmPlaysClose};
 
 /// A refused attempt leaves nothing: after every history of a script each note and each reader that stands in a slot has
 /// the id of an attempt of its host that is in hand, or that its host's stop has ended, or that was done in part, or that
@@ -13,4 +14,10 @@ pub fn refused_attempts_leave_nothing()
 /// writes and is not to stop, and in which no bay has answered Fault, each job that has parts is done at its first attempt.
 pub fn lone_hosts_are_done()
     ensures { LoneHostsAreDone }
+{}
+
+/// Calm plays close their rows: once all hosts of a script have ended that neither recovers a row nor loses a device, and in
+/// which no host is to stop, and no bay has answered Fault, each row is closed, and each of its units is shown.
+pub fn calm_plays_close()
+    ensures { CalmPlaysClose }
 {}

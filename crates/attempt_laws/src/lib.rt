@@ -1,4 +1,5 @@
-//! Laws of attempts over histories: a refused attempt leaves nothing, and a host alone is never refused.
+//! Laws of attempts over histories: a refused attempt leaves nothing, a host alone is never refused, and calm plays close their
+//! rows.
 #![tactic(auto)]
 
 pub mod laws;

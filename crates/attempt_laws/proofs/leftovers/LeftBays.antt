@@ -46,13 +46,13 @@ own-row row = grind (arith, nat_tests)
 
 module _ (script : Script) (is : IsScript script) where
   -- notes and readers of a host that stand
-  abbrev N : HostNo → List Call → BayNo → RowNo → Number → Type 0
+  abbrev pub N : HostNo → List Call → BayNo → RowNo → Number → Type 0
   N host history at row x = (note : Note) × (row.0 < script.rows) × ((slot_at script history at row).note ≡ Some note) × (note.host ≡ host) × (note.id ≡ x)
 
-  abbrev R : HostNo → List Call → BayNo → RowNo → Number → Type 0
+  abbrev pub R : HostNo → List Call → BayNo → RowNo → Number → Type 0
   R host history at row x = (reader : Reader) × (row.0 < script.rows) × IsIn reader (slot_at script history at row).readers × (reader.host ≡ host) × (reader.id ≡ x)
 
-  abbrev S : HostNo → List Call → Number → Type 0
+  abbrev pub S : HostNo → List Call → Number → Type 0
   S host history x = Happened (IsSeizure host x) history
 
   module _ (earlier : List Call) (call : Call) (next : IsNext script earlier call) where
@@ -305,7 +305,7 @@ module _ (script : Script) (is : IsScript script) where
   apart-at [] h at row below = subst Apart (sym (starts-first script at row below)) (λ note x f i own. i)
   apart-at (call ∷ earlier) h at row below = apart-next earlier call h.1 at row below (apart-at earlier h.0 at row below)
 
-  host-safe : (history : List Call) → IsHistory script history → (host : HostNo) → Safe script is host (N host history) (R host history) (S host history) (progress_at script host history)
+  pub host-safe : (history : List Call) → IsHistory script history → (host : HostNo) → Safe script is host (N host history) (R host history) (S host history) (progress_at script host history)
   host-safe [] h host =
       begins-safe script is host (N host []) (R host []) (S host [])
       (host-tasks script is host)
