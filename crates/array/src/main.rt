@@ -2,13 +2,16 @@
 //! plays a script that is made from a number, and prints its summary.
 #![tactic(auto)]
 
-ghost use Rattle.std.specs.Prelude.{◌≡◌, ℕ, IfErr, IfOk, Some, map, replicate, string_bytes};
+ghost use Rattle.std.specs.Prelude.{◌≡◌, ◌⊎◌, ℕ, IfErr, IfOk, Some, drop, map, replicate, string_bytes};
 ghost use Rattle.std.specs.Process.{exit_status};
+ghost use Rattle.std.specs.declared.io.ErrorKind.TheVariants.{InvalidData};
 ghost use Rattle.raid_base.specs.Cells.{zeros};
+ghost use Rattle.raid_base.specs.declared.status.Status.TheVariants.{Words, Memory};
 ghost use Rattle.block_store.specs.contracts.memory.MemoryStoreStore.TheImpl.{ghosts as memory_stores};
 ghost use Rattle.array_cli.specs.Commands.{command_of};
 ghost use Rattle.array_cli.specs.Exits.{exit_number};
 ghost use Rattle.array_cli.specs.Runs.{IsCall, IsLoad, IsNoCall, IsNoCallFor};
+ghost use Rattle.array.specs.Ends.{HasRun};
 ghost use Rattle.array_cli.specs.declared.words.Command.TheVariants.{Sim, Load};
 
 use array_cli::{Outcome, array, exit_number};
@@ -16,17 +19,37 @@ use block_store::MemoryStore;
 use raid_base::streams::standard::{ReaderSource, WriterSink};
 use raid_base::{NoMemory, Sink, Source, Status};
 use std::alloc::Global;
+use std::io::ErrorKind;
 use std::process::ExitCode;
 use std::{env, io};
 
-/// The words behind the program's name.
-fn words(rt: &HostRuntime) -> Result<Vec<String>, NoMemory> {
-    let mut words = Vec::new(rt.alloc());
-    let args = env::args(rt).map_err(|_| NoMemory)?;
-    for word in args.skip(1) {
-        words.push(word).map_err(|_| NoMemory)?;
+/// How it ends if the arguments can't be had: one of them is no text, or there is no memory.
+fn status_without_words(kind: ErrorKind) -> Status
+    ensures no_text { kind ≡ InvalidData → result ≡ Words }
+    ensures otherwise { (kind ≡ InvalidData) ⊎ (result ≡ Memory) }
+{
+    match kind {
+        ErrorKind::InvalidData => Status::Words,
+        _ => Status::Memory,
     }
-    Ok(words)
+}
+
+/// The program's arguments, its name first.
+fn arguments(rt: &HostRuntime) -> Result<Vec<String>, Status> {
+    match env::args(rt) {
+        Ok(args) => args.collect(rt.alloc()).map_err(|_| Status::Memory),
+        Err(error) => Err(status_without_words(error.kind())),
+    }
+}
+
+/// The words behind the program's name.
+fn behind_the_name(args: &[String]) -> &[String]
+    ensures { result.now ≡ drop 1 args.now }
+{
+    match args {
+        [] => args,
+        [_, words @ ..] => words,
+    }
 }
 
 /// So many devices of so many blocks of zeros.
@@ -57,26 +80,42 @@ fn run_over<S: Source, K: Sink>(
     Ok(array(alloc, words, source, sink, stores))
 }
 
-/// Does what the words say, over standard input and output.
-fn run(rt: &HostRuntime) -> Result<Status, NoMemory> {
-    let words = words(rt)?;
-    let mut source = ReaderSource::over(rt.reader());
-    let mut sink = WriterSink::over(io::writer(rt));
-    let outcome = run_over(rt.alloc(), words.as_slice(), &mut source, &mut sink)?;
+/// Does what the words say, as `run_over` does it, and tells how that has ended.
+fn run_words<S: Source, K: Sink>(
+    alloc: Global,
+    words: &[String],
+    source: &mut S,
+    sink: &mut K,
+) -> Result<Status, NoMemory>
+    ensures ran { IfOk result (HasRun S.Source K.Sink (map string_bytes words.now) source.old source.new sink.old sink.new (replicate 16 (replicate 4096 zeros))) }
+    ensures memory { IfErr result (λ _. (source.new ≡ source.old) × (sink.new ≡ sink.old)) }
+{
+    let outcome = run_over(alloc, words, source, sink)?;
     Ok(outcome.status)
 }
 
-/// What the process ends with.
-fn exit_code(status: Status) -> ExitCode
+/// Does what the words behind the program's name say, over standard input and output.
+fn run(rt: &HostRuntime) -> Status {
+    let args = match arguments(rt) {
+        Ok(args) => args,
+        Err(status) => return status,
+    };
+    let words = behind_the_name(args.as_slice());
+    let mut source = ReaderSource::over(rt.reader());
+    let mut sink = WriterSink::over(io::writer(rt));
+    run_words(rt.alloc(), words, &mut source, &mut sink).unwrap_or(Status::Memory)
+}
+
+/// Says on standard error how the run has ended, where it isn't done, and ends the process with the number of that.
+fn end(rt: &HostRuntime, status: Status) -> ExitCode
     ensures { exit_status result ≡ exit_number status }
 {
+    if status != Status::Done {
+        let _ = eprintln!(rt; "array: {status}");
+    }
     ExitCode::from(exit_number(status))
 }
 
 fn main(rt: HostRuntime) -> ExitCode {
-    let status = run(&rt).unwrap_or(Status::Memory);
-    if status != Status::Done {
-        let _ = eprintln!(rt; "array: {status}");
-    }
-    exit_code(status)
+    end(&rt, run(&rt))
 }
