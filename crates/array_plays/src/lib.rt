@@ -4,6 +4,8 @@
 #[cfg(test)]
 mod inputs;
 #[cfg(test)]
+mod load_runs;
+#[cfg(test)]
 mod losses;
 #[cfg(test)]
 mod playing;

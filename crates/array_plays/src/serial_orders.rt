@@ -1,11 +1,15 @@
 //! What is wrong with a report beside a serial array, if anything.
 //!
 //! The results take effect on the array in the order of their numbers. Each read agrees with it when its turn comes, and each
-//! block that is seen at the end. The blocks of a closed row add up to zeros where no device is gone.
+//! block that is seen at the end. The blocks of a closed row of which no bay lacks its cell add up to zeros.
 
+use array_cli::Outcome;
+use arrayvec::ArrayVec;
 use block_store::{FailingStore, Store};
-use raid_base::{Content, JobEnd, JobResult, Number, RowNo, Shown, Task};
-use raid_xor::xor_into;
+use raid_base::{
+    Cell, Content, Entry, JobEnd, JobResult, Number, Reply, Request, RowNo, Shown, Task,
+};
+use raid_xor::sum_of;
 use report_text::{Report, read_report};
 use script_text::{Script, read_script};
 use serial_array::SerialArray;
@@ -138,32 +142,42 @@ fn rise(results: &[JobResult], order: &[(u64, usize)]) -> bool {
     true
 }
 
-/// The exclusive-or of a row's blocks of all stores. No two calls after one another fail.
-fn sum_of(stores: &mut [FailingStore], row: RowNo) -> Result<[u8; 64], Fail> {
-    let mut sum = [0; 64];
+/// Whether a bay has a cell of this row at the end: its device was not lost, or the row was put since.
+fn has_cell(journal: &[Entry], row: RowNo) -> bool {
+    let mut has = true;
+    for entry in journal {
+        match entry.ask.what {
+            Request::Lose => has = false,
+            Request::Put { row: put, .. } if put == row && entry.reply == Reply::Done => has = true,
+            _ => {}
+        }
+    }
+    has
+}
+
+/// Whether all bays have a cell of this row.
+fn is_whole(journals: &[Vec<Entry>], row: RowNo) -> bool {
+    for journal in journals {
+        if !has_cell(journal.as_slice(), row) {
+            return false;
+        }
+    }
+    true
+}
+
+/// The sum of a row's blocks of all stores. No two calls after one another fail.
+fn row_sum(stores: &mut [FailingStore], row: RowNo) -> Result<[u8; 64], Fail> {
+    let mut cells = ArrayVec::<Cell, 16>::new();
     for store in stores.iter_mut() {
-        if u32::from(row.0) < store.blocks() {
+        if u32::from(row.0) < store.blocks() && !cells.is_full() {
             let bytes = match store.read(row) {
                 Ok(bytes) => bytes,
                 Err(_) => store.read(row)?,
             };
-            xor_into(&mut sum, &bytes);
+            cells.push(Cell { bytes, lost: 0 });
         }
     }
-    Ok(sum)
-}
-
-/// Whether a device is gone at the end, or not rebuilt.
-fn is_gone(results: &[JobResult]) -> bool {
-    let mut gone = false;
-    for result in results {
-        match result.end {
-            JobEnd::Lost => gone = true,
-            JobEnd::Rebuilt => gone = false,
-            _ => {}
-        }
-    }
-    gone
+    Ok(sum_of(cells.as_slice()))
 }
 
 /// Whether the results take effect in the order of their numbers, and each agrees with the array.
@@ -193,10 +207,13 @@ fn shows(report: &Report, array: &SerialArray) -> bool {
     true
 }
 
-/// Whether the blocks of each of these rows that is closed add up to zeros.
-fn add_up(stores: &mut [FailingStore], rows: &[bool]) -> Result<bool, Fail> {
-    for (row, closed) in (0..u16::MAX).zip(rows) {
-        if *closed && sum_of(stores, RowNo(row))? != [0; 64] {
+/// Whether the blocks of each of these rows that is closed and whole add up to zeros.
+fn add_up(outcome: &mut Outcome<FailingStore>, closed: &[bool]) -> Result<bool, Fail> {
+    for (row, closed) in (0..u16::MAX).zip(closed) {
+        if *closed
+            && is_whole(outcome.journals.as_slice(), RowNo(row))
+            && row_sum(outcome.stores.as_mut_slice(), RowNo(row))? != [0; 64]
+        {
             return Ok(false);
         }
     }
@@ -221,14 +238,14 @@ pub fn fault_in(
     alloc: Global,
     text: &str,
     printed: &str,
-    stores: &mut [FailingStore],
+    outcome: &mut Outcome<FailingStore>,
 ) -> Result<Option<&'static str>, Fail> {
     if text.len() >= 1 << 20 || printed.len() >= 1 << 20 {
         return Ok(Some("too long"));
     }
     let script = read_script(alloc, text.as_bytes())?;
     let report = read_report(alloc, printed.as_bytes())?;
-    if is_gone(report.results.as_slice()) || add_up(stores, report.rows.as_slice())? {
+    if add_up(outcome, report.rows.as_slice())? {
         fault_of(alloc, &script, &report)
     } else {
         Ok(Some("a closed row that does not add up"))

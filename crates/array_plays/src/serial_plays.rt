@@ -3,24 +3,32 @@
 use crate::playing::call;
 use crate::serial_orders::fault_in;
 use crate::texts::{LOCKS, STAMPS, push_lines, push_turns};
-use raid_base::Status;
+use raid_base::{BayNo, Status};
 use std::alloc::Global;
 use std::process::Abort;
 use std::test::Fail;
 
-/// What is wrong with a play. A store that fails at the end may leave no report.
+/// Whether the store of this bay is to fail.
+fn is_to_fail(failing: &[(u32, u32)], bay: BayNo) -> bool {
+    for (place, _) in failing {
+        if *place == u32::from(bay.0) {
+            return true;
+        }
+    }
+    false
+}
+
+/// What is wrong with a play. A store that is to fail may do so at the end, and then no report is printed.
 fn fault_of_play(
     alloc: Global,
     text: &str,
     failing: &[(u32, u32)],
 ) -> Result<Option<&'static str>, Fail> {
     let (mut outcome, printed) = call(alloc, text, 2, failing)?;
-    if outcome.status == Status::Done {
-        fault_in(alloc, text, printed.as_str(), outcome.stores.as_mut_slice())
-    } else if failing.is_empty() {
-        Ok(Some("not done"))
-    } else {
-        Ok(None)
+    match outcome.status {
+        Status::Done => fault_in(alloc, text, printed.as_str(), &mut outcome),
+        Status::StoreFault { bay } if is_to_fail(failing, bay) && printed.is_empty() => Ok(None),
+        _ => Ok(Some("another status")),
     }
 }
 
