@@ -1,4 +1,5 @@
 -- Small scripts and what their plays show, worked out.
+pub mod DegradedCalls
 pub mod Heads
 pub mod LockRows
 pub mod LossRows
