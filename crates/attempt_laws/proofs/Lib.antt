@@ -1,3 +1,4 @@
 pub mod calm
 pub mod leftovers
 pub mod lone
+pub mod rescues

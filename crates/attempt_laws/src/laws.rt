@@ -2,6 +2,7 @@
 ghost use Rattle.histories.specs.Leftovers.{RefusedLeaveNothing};
 ghost use Rattle.attempt_laws.specs.Lone.{LoneHostsAreDone};
 ghost use Rattle.attempt_laws.specs.Calm.{CalmPlaysClose};
+ghost use Rattle.attempt_laws.specs.Rescues.{RecoveriesClose};
 
 /// A refused attempt leaves nothing: after every history of a script each note and each reader that stands in a slot has
 /// the id of an attempt of its host that is in hand, or that its host's stop has ended, or that was done in part, or that
@@ -20,4 +21,10 @@ pub fn lone_hosts_are_done()
 /// which no host is to stop, and no bay has answered Fault, each row is closed, and each of its units is shown.
 pub fn calm_plays_close()
     ensures { CalmPlaysClose }
+{}
+
+/// Recoveries close their rows: where a recovery has ended as recovered and closed, and no other host asked a slot of its row
+/// while its last attempt made its calls, no slot of the row has a note.
+pub fn recoveries_close()
+    ensures { RecoveriesClose }
 {}

@@ -63,20 +63,20 @@ use Rattle.attempt_laws.proofs.calm.CalmHosts.{IsWhole, EndsWhole, Tame, IsFine,
 
 -- One request at a bay
 module _ (b : Bay) (ask : Ask) (fails : Bool) (there : RowNo) (asked : row_of ask.what ≡ Some there) where
-  abbrev outcome : SlotOutcome
+  abbrev pub outcome : SlotOutcome
   outcome = slot_rule b (slot_of b there) ask fails ask.what
 
   ruled : rule b ask fails ≡ with_slot b there (slot_of b there) outcome
   ruled = rule_of-row b ask fails ask.what there asked
 
-  replied-there : (rule b ask fails).reply ≡ outcome.reply
+  pub replied-there : (rule b ask fails).reply ≡ outcome.reply
   replied-there = ap (λ (o : Outcome). o.reply) ruled
 
   others-stay : (row : RowNo) → (there.0 == row.0) ≡ false → slot_of (rule b ask fails).bay row ≡ slot_of b row
   others-stay row e =
       ap (λ (o : Outcome). slot_of o.bay row) ruled ∙ get_or-set_other b.slots there.0 row.0 outcome.slot (bare_slot (number 0)) (λ same. absurd (grind (arith, nat_tests)))
 
-  slot-there : there.0 < length b.slots → slot_of (rule b ask fails).bay there ≡ outcome.slot
+  pub slot-there : there.0 < length b.slots → slot_of (rule b ask fails).bay there ≡ outcome.slot
   slot-there within = ap (λ (o : Outcome). slot_of o.bay there) ruled ∙ get_or-set_same b.slots there.0 outcome.slot (bare_slot (number 0)) within
 
 -- Jobs

@@ -65,7 +65,7 @@ module _ (script : Script) (is : IsScript script) where
     pub fitted : fits call.ask.what call.answer.reply ≡ true
     fitted = ap (λ (x : Reply). fits call.ask.what x) reply-is ∙ replies_fit_lem (bay_at script call.bay earlier) call.ask (is_fault call.answer.reply)
 
-    abbrev LotAt : BayNo → RowNo → Type 0
+    abbrev pub LotAt : BayNo → RowNo → Type 0
     LotAt at row = LetsRow script.mode call.ask row (slot_at script earlier at row) r (slot_at script (call ∷ earlier) at row)
 
     -- the slots of the bay that is asked
@@ -103,10 +103,10 @@ module _ (script : Script) (is : IsScript script) where
         by (inr e) = subst Apart (sym e) h
 
     -- where a note comes from
-    abbrev NoteFrom : BayNo → RowNo → Note → Type 0
+    abbrev pub NoteFrom : BayNo → RowNo → Note → Type 0
     NoteFrom at row note = ((slot_at script earlier at row).note ≡ Some note) ⊎ ((call.bay ≡ at) × (row_of call.ask.what ≡ Some row) × ClaimedBy call.ask r note call.ask.what)
 
-    note-from : (at : BayNo) (row : RowNo) → row.0 < script.rows → (note : Note) → (slot_at script (call ∷ earlier) at row).note ≡ Some note → NoteFrom at row note
+    pub note-from : (at : BayNo) (row : RowNo) → row.0 < script.rows → (note : Note) → (slot_at script (call ∷ earlier) at row).note ≡ Some note → NoteFrom at row note
     note-from at row below note f = by (lot at row below)
       where
         its : call.bay ≡ at → row_of call.ask.what ≡ Some row → ((slot_at script earlier at row).note ≡ Some note) ⊎ ClaimedBy call.ask r note call.ask.what → NoteFrom at row note
@@ -182,7 +182,7 @@ module _ (script : Script) (is : IsScript script) where
     own-bay : (a : BayNo) → (a.0 == a.0) ≡ true
     own-bay a = grind (arith, nat_tests)
 
-    own-lot : (row : RowNo) → row.0 < script.rows → LotAt call.bay row
+    pub own-lot : (row : RowNo) → row.0 < script.rows → LotAt call.bay row
     own-lot row below =
         subst (λ (b : Bool). LetsRow script.mode call.ask row (slot_at script earlier call.bay row) r (slot_of (if_ruled (bay_at script call.bay earlier) call b) row))
         (sym (own-bay call.bay)) (ruled call.bay row below refl)
@@ -301,7 +301,7 @@ module _ (script : Script) (is : IsScript script) where
               (others (λ same. let bad : true ≡ false = sym (own-host call.ask.host) ∙ ap (λ (x : HostNo). call.ask.host.0 == x.0) same ∙ own in cc))
               (progress_at script host earlier) s
 
-  apart-at : (history : List Call) → IsHistory script history → (at : BayNo) (row : RowNo) → row.0 < script.rows → Apart (slot_at script history at row)
+  pub apart-at : (history : List Call) → IsHistory script history → (at : BayNo) (row : RowNo) → row.0 < script.rows → Apart (slot_at script history at row)
   apart-at [] h at row below = subst Apart (sym (starts-first script at row below)) (λ note x f i own. i)
   apart-at (call ∷ earlier) h at row below = apart-next earlier call h.1 at row below (apart-at earlier h.0 at row below)
 
