@@ -6,14 +6,14 @@ use std::process::Abort;
 use std::test::Fail;
 
 /// A write stops after so many requests: what is left, and what a recovery by another host makes of it.
-fn check_stop(
+fn check_stop<'x>(
     rt: &impl Abort,
     alloc: Global,
     requests: u32,
-    job: &str,
-    end: &str,
-    blocks: &[&str],
-    row: &str,
+    job: &'x str,
+    end: &'x str,
+    blocks: &'x [&'x str],
+    row: &'x str,
 ) -> Result<(), Fail> {
     let turns = [(1, 1, u64::from(requests))];
     let left = Play {
