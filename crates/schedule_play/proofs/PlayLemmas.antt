@@ -13,6 +13,7 @@ use Rattle.raid_base.specs.Replies.{is_fault}
 use Rattle.script_text.specs.Script.{Script, host_numbers}
 use Rattle.histories.specs.Progress.{Sent, asks}
 use Rattle.histories.specs.History.{Faults, faults_in, IsHistory, answered, after_sent, after_turn, play, has_ended, progress_at, journal, entry_of}
+use Rattle.histories.specs.Played.{Told}
 use Rattle.histories.specs.Turns.{sim, rounds, round_on, next_host, next_moment, last_moment, all_ended, or_first}
 use Rattle.histories.specs.Asked.{AreAsked}
 use Rattle.histories.specs.Bounds.{IsPlayable}
@@ -23,53 +24,13 @@ use Rattle.schedule_play.proofs.WorldLemmas.{rise-least, default-free}
 use Rattle.std.proofs.lemmas.Bool.{cases_lt}
 use Rattle.std.specs.Vec.{vec_len}
 use Rattle.histories.proofs.bounds.BoundsHistory.{requests_are_bounded}
+use Rattle.histories.proofs.plays.ToldFaults.{history-told}
+use Rattle.histories.proofs.plays.PlayedHistories.{play-more}
 use Rattle.schedule_play.proofs.TurnLemmas.{length-turns}
 use Rattle.block_store.specs.declared.store.Store.{Ghosts}
 use Rattle.schedule_play.specs.declared.world.World.{World}
 use Rattle.schedule_play.specs.World.{LeadsTo, TurnLeads, Turned, turn_of, IsReady, Shows, HostShows, all_requests}
-use Rattle.schedule_play.specs.Plays.{HasPlayed, Played, Told, Plays, IsFound, waits, unless_ended}
-
-journal_longer : (bay : BayNo) (call : Call) (earlier : List Call) → length (journal bay earlier) ≤ length (journal bay (call ∷ earlier))
-journal_longer bay call earlier = go _ refl
-  where
-    go : (b : Bool) → eqb call.bay.0 bay.0 ≡ b → length (journal bay earlier) ≤ length (journal bay (call ∷ earlier))
-    go true e = rw e (omega (arith, length-append (journal bay earlier) (entry_of call ∷ [])))
-    go false e = rw e (omega arith)
-
-journal_longest : (bay : BayNo) (later earlier : List Call) → length (journal bay earlier) ≤ length (journal bay (later ++ earlier))
-journal_longest bay [] earlier = omega arith
-journal_longest bay (call ∷ later) earlier = omega (arith, journal_longer bay call (later ++ earlier), journal_longest bay later earlier)
-
--- the fault of a call is found at its place, whatever came later
-faults-told : (later earlier : List Call) (call : Call) → faults_in (later ++ call ∷ earlier) call.bay (length (journal call.bay earlier)) ≡ is_fault call.answer.reply
-faults-told [] earlier call =
-    let here : (eqb call.bay.0 call.bay.0 && eqb (length (journal call.bay earlier)) (length (journal call.bay earlier))) ≡ true = grind (arith, nat_tests) in
-    rw here refl
-faults-told (c ∷ later) earlier call = go _ refl (faults-told later earlier call)
-  where
-    here : eqb call.bay.0 call.bay.0 ≡ true
-    here = eq-eqb _ _ refl
-
-    longer : length (journal call.bay earlier) < length (journal call.bay (later ++ call ∷ earlier))
-    longer =
-        let one : length (journal call.bay (call ∷ earlier)) ≡ length (journal call.bay earlier) + 1 = rw here (length-append (journal call.bay earlier) (entry_of call ∷ [])) in
-        omega (arith, one, journal_longest call.bay later (call ∷ earlier))
-
-    go : (b : Bool) → (eqb c.bay.0 call.bay.0 && eqb (length (journal call.bay (later ++ call ∷ earlier))) (length (journal call.bay earlier))) ≡ b →
-        faults_in (later ++ call ∷ earlier) call.bay (length (journal call.bay earlier)) ≡ is_fault call.answer.reply →
-        faults_in (c ∷ later ++ call ∷ earlier) call.bay (length (journal call.bay earlier)) ≡ is_fault call.answer.reply
-    go false e ih = rw e ih
-    go true e ih = absurd (let more = longer in grind (arith, nat_tests))
-
-told-in : (script : Script) (later history : List Call) → IsHistory script history → Told script (faults_in (later ++ history)) history
-told-in script later [] h = tt
-told-in script later (call ∷ earlier) h = (
-  subst (λ (whole : List Call). Told script (faults_in whole) earlier) (append_assoc later (call ∷ []) earlier) (told-in script (later ++ call ∷ []) earlier h.0),
-  h.1.replied ∙ ap (answered script earlier (record { bay = call.bay; ask = call.ask })) (sym (faults-told later earlier call)),
-)
-
-pub history-told : (script : Script) (history : List Call) → IsHistory script history → Told script (faults_in history) history
-history-told script history h = told-in script [] history h
+use Rattle.schedule_play.specs.Plays.{HasPlayed, Played, Plays, IsFound, waits, unless_ended}
 
 -- a turn with these faults
 turn-by : (script : Script) (faults : Faults) (o : Option Sent) (earlier later : List Call) → LeadsTo o earlier later → Told script faults later →
@@ -84,11 +45,6 @@ pub turn-told : (script : Script) (faults : Faults) (turn : Turn) (earlier later
 turn-told script faults turn earlier later leads told = turn-by script faults (asks turn.host (progress_at script turn.host earlier) turn.moment) earlier later leads told
 
 -- one more turn
-play-more : (script : Script) (faults : Faults) (start : List Call) (turns : List Turn) (turn : Turn) →
-    play script faults start (turns ++ turn ∷ []) ≡ after_turn script faults (play script faults start turns) turn
-play-more script faults start [] turn = refl
-play-more script faults start (t ∷ turns) turn = play-more script faults (after_turn script faults start t) turns turn
-
 pub plays-more : (script : Script) (turns : List Turn) (turn : Turn) (earlier later : List Call) → Plays script turns earlier → TurnLeads script turn earlier later →
     Plays script (turns ++ turn ∷ []) later
 plays-more script turns turn earlier later plays leads faults told =

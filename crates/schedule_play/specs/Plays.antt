@@ -6,7 +6,8 @@ use Rattle.raid_base.specs.declared.messages.Turn.{Turn}
 use Rattle.block_store.specs.declared.store.Store.{Ghosts}
 use Rattle.script_text.specs.Script.{Script}
 use Rattle.host_engine.specs.declared.host.Host.{Host}
-use Rattle.histories.specs.History.{Faults, answered, faults_in, has_ended, journal, play}
+use Rattle.histories.specs.History.{Faults, faults_in, has_ended, play}
+use Rattle.histories.specs.Played.{Told}
 use Rattle.histories.specs.Turns.{all_ended, sim}
 use Rattle.schedule_play.specs.World.{AllTell, Shows, all_requests}
 use Rattle.schedule_play.specs.declared.world.World.{World}
@@ -24,13 +25,6 @@ waits script history from host = nat_le from host.0 && not (has_ended script his
 abbrev pub IsFound : List Host → Option HostNo → Option (ℕ × HostNo) → Type 0
 IsFound hosts wanted None = wanted ≡ None
 IsFound hosts wanted (Some (place, number)) = (wanted ≡ Some number) × (place < length hosts) × ((host : Host) → host ≡ slice_index_or hosts place host → host.no ≡ number)
-
--- each call is what its bay answers with these faults
-abbrev pub Told : Script → Faults → List Call → Type 0
-Told script faults [] = Unit {0}
-Told script faults (call ∷ earlier) =
-    Told script faults earlier
-    × (call ≡ answered script earlier (record { bay = call.bay; ask = call.ask }) (faults call.bay (length (journal call.bay earlier))))
 
 -- a history that these turns give, with the faults that it tells
 abbrev pub Plays : Script → List Turn → List Call → Type 0
