@@ -39,7 +39,7 @@ abbrev pub IsRead : Task → Type 0
 IsRead (tasks.Read object first count) = Unit {0}
 IsRead _ = ⊥
 
--- which refuses it as Behind
+-- so that it is refused as Behind
 abbrev pub IsBehind : Script → Task → Call → Type 0
 IsBehind script task call = (script.mode ≡ Order) × IsReadOrWrite task × (floor : Number) × IsFloorFrom floor call
 
@@ -80,24 +80,27 @@ IsGranted n row call = IsClaim (parity_bay n row) row call × (grant : Grant) ×
 abbrev pub IsLacking : ℕ → RowNo → Call → Type 0
 IsLacking n row call = IsClaim (parity_bay n row) row call × IsMissing call
 
--- a slot of a rebuild is gone where its claim finds it missing, or without a cell on another bay than the target; and the
--- parity of a recovery where its claim finds it missing, unless the host is the operator
+-- a claim found the slot gone: of a rebuild, or of the parity in a recovery of another host than 0
 abbrev pub IsGone : Script → HostNo → BayNo → Task → List Call → Type 0
 IsGone script host bay (tasks.Rebuild target) calls =
-    Happened (λ call. IsMendClaim bay call × IsMissing call) calls ⊎ ((target ≢ bay) × Happened (λ call. IsMendClaim bay call × IsBare call) calls)
+    Happened (λ call. IsMendClaim bay call × IsMissing call) calls
+    ⊎ ((target ≢ bay) × Happened (λ call. IsMendClaim bay call × IsBare call) calls)
 IsGone script host bay (tasks.Recover row) calls = (host.0 ≢ 0) × (bay ≡ parity_bay script.n row) × Happened (IsLacking script.n row) calls
 IsGone script host bay _ calls = ⊥
 
--- a reply that has a cause of its own, after these calls: a fault, a floor that is not below the id, or a second bay that is missing
+-- after these calls the reply has a cause of its own: a fault, Behind, or a second missing bay
 abbrev pub HasOwnCause : Script → Task → List Call → Call → Type 0
 HasOwnCause script task earlier call =
-    Answers replies.Fault call ⊎ (IsBehind script task call ⊎ (IsMissing call × (other : BayNo) × (other ≢ call.bay) × Happened (IsMissingAt other) earlier))
+    Answers replies.Fault call
+    ⊎ (IsBehind script task call
+    ⊎ (IsMissing call × (other : BayNo) × (other ≢ call.bay) × Happened (IsMissingAt other) earlier))
 
--- a parity that was granted is not held, or one that was missing is not, by a reply without a cause of its own
+-- a parity granted is not held, or one missing is not, by a reply without a cause of its own
 abbrev pub IsChange : Script → Task → RowNo → List Call → Call → Type 0
 IsChange script task row earlier call =
     ¬ (HasOwnCause script task earlier call)
-    × ((IsHeldBadly script.n row call × Happened (IsGranted script.n row) earlier) ⊎ (IsFound script.n row call × Happened (IsLacking script.n row) earlier))
+    × ((IsHeldBadly script.n row call × Happened (IsGranted script.n row) earlier)
+    ⊎ (IsFound script.n row call × Happened (IsLacking script.n row) earlier))
 
 abbrev pub IsChanged : Script → Task → RowNo → List Call → Type 0
 IsChanged script task row [] = ⊥
