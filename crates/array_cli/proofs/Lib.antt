@@ -1,3 +1,4 @@
 pub mod CommandLineLemmas
 pub mod Shortness
+pub mod SerialReportLemmas
 pub mod RunLemmas

@@ -48,8 +48,10 @@ use Rattle.serial_laws.proofs.serial.Serial.{plays_are_serial}
 use Rattle.schedule_play.proofs.CloseLemmas.{closed-journals, closed-stores, closed-back}
 use Rattle.schedule_play.proofs.ReportLemmas.{report-is}
 use Rattle.schedule_play.proofs.ContentLemmas.{contents-whole}
+use Rattle.array_cli.specs.SerialReports.{IsSerialReport}
 use Rattle.array_cli.specs.declared.run.Outcome.{Outcome}
 use Rattle.array_cli.specs.Runs.{handed_out, journal_of, AllTell, HasFailedBy, HasPlayed, HasStopped, HasCalled, HasLoaded, IsLoad, IsCall, IsEmpty, IsIdle, IsOpened, IsPlayed, IsRead, IsReported}
+use Rattle.array_cli.proofs.SerialReportLemmas.{serial-report}
 use Rattle.array_cli.specs.Parts.{HasEnded, HasPrinted, IsFinished, IsRefused, IsUnplayed}
 
 pub playable : (script : Script) → IsScript script → IsPlayable script
@@ -295,10 +297,14 @@ module _ {K D : Type 0} (k : SinkGhosts K) (g : Ghosts D) where
       told-of : AllTell g script stores → IsReported script (handed_out g outcome) report
       told-of tells =
           let end = f.ended tells in
+          let same : report ≡ report_of script f.history = report-of script is f.history now f.shows end.1 in
+          let play : IsPlayed script (handed_out g outcome) f.history =
+          is-played whole script is few f.history now outcome f.shows end.0 (ap (λ (r : _). r.items) out.results ∙ end.1.results) out in
           record {
+            serial = subst (λ (r : ReportOf). IsSerialReport script r) (sym same) (serial-report script f.history is play.headline.serial);
             history = f.history;
-            input_output = report-of script is f.history now f.shows end.1;
-            played = is-played whole script is few f.history now outcome f.shows end.0 (ap (λ (r : _). r.items) out.results ∙ end.1.results) out;
+            input_output = same;
+            played = play;
           }
 
       go : (status : Status) → HasPrinted k (print report) sink after status → HasPlayed k g print script sink after stores outcome status

@@ -1,5 +1,6 @@
 pub mod CommandLine
 pub mod Commands
 pub mod Exits
+pub mod SerialReports
 pub mod Runs
 pub mod Parts

@@ -25,6 +25,7 @@ use Rattle.serial_laws.specs.Contents.{AreContentsShown}
 use Rattle.attempt_laws.specs.Lone.{LoneJobsAreDone}
 use Rattle.serial_laws.specs.Headline.{Outcome as PlayOutcome, Headline}
 use Rattle.schedule_play.specs.Reported.{report_of}
+use Rattle.array_cli.specs.SerialReports.{IsSerialReport}
 use Rattle.array_cli.specs.declared.run.Outcome.{Outcome}
 use Rattle.array_cli.specs.declared.words.Command.{Command}
 use Rattle.array_cli.specs.declared.words.Command.TheVariants.{Sim, Run, Load}
@@ -51,8 +52,9 @@ pub record IsPlayed (script : Script) (outcome : PlayOutcome) (history : List Ca
   pub unrefused : UnrefusedAreDone script history
   pub alone : LoneJobsAreDone script history
 
--- and its report
+-- and its report, whose results and blocks are those of an array without devices
 pub record IsReported (script : Script) (outcome : PlayOutcome) (report : ReportOf) : Type 0 where
+  pub serial : IsSerialReport script report
   pub history : List Call
   pub input_output : report ≡ report_of script history
   pub played : IsPlayed script outcome history
