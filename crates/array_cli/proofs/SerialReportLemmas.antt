@@ -17,13 +17,15 @@ use Rattle.script_text.specs.Script.{Script, HostJobs, host_numbers, jobs_of, jo
 use Rattle.script_text.specs.Ranges.{IsScript, Rise}
 use Rattle.report_text.specs.Views.{object_blocks}
 use Rattle.histories.specs.Progress.{Ending}
-use Rattle.histories.specs.History.{endings_at}
+use Rattle.histories.specs.History.{endings_at, IsHistory}
+use Rattle.histories.specs.Turns.{all_ended}
 use Rattle.histories.specs.Endings.{AreEndings}
 use Rattle.histories.specs.Results.{result_of, shown_block}
 use Rattle.histories.proofs.endings.EndingLemmas.{endings_are_filled}
 use Rattle.histories.proofs.steps.SameNumbers.{same-host}
 use Rattle.serial_array.specs.Serial.{Array, IsSerial, HasResults, Reported, numbered}
 use Rattle.serial_laws.specs.Headline.{IsSerialPlay, reported, reported_at}
+use Rattle.serial_laws.proofs.serial.Serial.{plays_are_serial}
 use Rattle.schedule_play.specs.Reported.{report_of}
 use Rattle.array_cli.specs.SerialReports.{IsSerialReport, results_in, reported_in, with_job}
 
@@ -222,3 +224,6 @@ serial-report script history is play = record {
   blocks = addresses-are (shown_block script history) (flat_map (object_blocks script.n) script.objects);
   flags = refl;
 }
+
+pub reports_are_serial : (script : Script) (history : List Call) → IsScript script → IsHistory script history → all_ended script history ≡ true → IsSerialReport script (report_of script history)
+reports_are_serial script history is told ended = serial-report script history is (plays_are_serial script history is told ended)

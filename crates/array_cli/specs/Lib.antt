@@ -2,5 +2,6 @@ pub mod CommandLine
 pub mod Commands
 pub mod Exits
 pub mod SerialReports
+pub mod Laws
 pub mod Runs
 pub mod Parts

@@ -2,6 +2,7 @@
 #![tactic(auto)]
 
 pub mod input;
+pub mod laws;
 pub mod run;
 pub mod words;
 
