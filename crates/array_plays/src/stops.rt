@@ -1,40 +1,45 @@
 //! A write that stops after each of its requests.
 
-use crate::playing::{FIVE, Play, check};
+use crate::playing::check_text;
+use crate::texts::{STAMPS, push_state, report_of, script_of};
 use std::alloc::Global;
 use std::process::Abort;
 use std::test::Fail;
 
-/// A write stops after so many requests: what is left, and what a recovery by another host makes of it.
-fn check_stop<'x>(
+/// A write stops after so many requests: what is left.
+fn check_left(
     rt: &impl Abort,
     alloc: Global,
     requests: u32,
-    job: &'x str,
-    end: &'x str,
-    blocks: &'x [&'x str],
-    row: &'x str,
+    job: &str,
+    end: &str,
+    blocks: &[&str],
+    row: &str,
 ) -> Result<(), Fail> {
     let turns = [(1, 1, u64::from(requests))];
-    let left = Play {
-        hosts: &["host 1", job],
-        turns: &turns,
-        results: &[end],
-        count: requests,
-        blocks,
-        rows: &[row],
-        ..FIVE
-    };
-    let all = [(1, 1, u64::from(requests)), (2, 20, 30)];
-    let recovered = Play {
-        hosts: &["host 1", job, "host 2", "recover 0"],
-        turns: &all,
-        results: &[end, "2 0 recovered 18 closed none"],
-        count: requests.saturating_add(11),
-        rows: &["closed"],
-        ..left
-    };
-    check(rt, alloc, &[left, recovered])
+    let script = script_of(alloc, STAMPS, &["host 1", job], &turns)?;
+    let mut report = report_of(alloc, &[end], requests, &turns, &[])?;
+    push_state(&mut report, blocks, &[row])?;
+    check_text(rt, alloc, script.as_str(), 1, &[], report.as_str())
+}
+
+/// And what a recovery by another host makes of it.
+fn check_recovered(
+    rt: &impl Abort,
+    alloc: Global,
+    requests: u32,
+    job: &str,
+    end: &str,
+    blocks: &[&str],
+) -> Result<(), Fail> {
+    let turns = [(1, 1, u64::from(requests)), (2, 20, 30)];
+    let hosts = ["host 1", job, "host 2", "recover 0"];
+    let script = script_of(alloc, STAMPS, &hosts, &turns)?;
+    let results = [end, "2 0 recovered 18 closed none"];
+    let count = requests.saturating_add(11);
+    let mut report = report_of(alloc, &results, count, &turns, &[])?;
+    push_state(&mut report, blocks, &["closed"])?;
+    check_text(rt, alloc, script.as_str(), 1, &[], report.as_str())
 }
 
 /// A write of two blocks stops after each of its nine requests: the claim of the parity, two shares, two claims, the confirm,
@@ -60,7 +65,8 @@ fn a_write_stops_at_each_request(rt: HostRuntime) -> Result<(), Fail> {
         (9, "quit 9 write a 0 41 42", wrote, both, "closed"),
     ];
     for (requests, job, end, blocks, row) in table {
-        check_stop(&rt, rt.alloc(), requests, job, end, &blocks, row)?;
+        check_left(&rt, rt.alloc(), requests, job, end, &blocks, row)?;
+        check_recovered(&rt, rt.alloc(), requests, job, end, &blocks)?;
     }
     Ok(())
 }
