@@ -177,15 +177,15 @@ module _ (r : Rescue) where
       rises-run AllIn all-rises (recover_confirming taken) (recover_confirmed r taken) (λ u. tt) (confirmed-answers taken) (confirm r.id r.row false (parity_bay r.n r.row) ∷ []) (tt, tt) done g tt
 
   -- the claims: each that goes on was answered
-  answer-of : (reply : Reply) (o : Option (Option Grant)) → IfSome o (GrantOrGap reply) → {B : Type 0} (f : Option Grant → B) (b : B) → option_map f o ≡ Some b → is_answer reply ≡ true
-  answer-of reply None h f b e = absurd (cc)
-  answer-of reply (Some (Some grant)) h f b e = ap (λ (g : Option Grant). is_some g || is_missing reply) h
-  answer-of reply (Some None) h f b e = ap (λ (x : Reply). is_answer x) h.1
+  answer-of : (missing : Option BayNo) (bay : BayNo) (reply : Reply) (o : Option (Option Grant)) → IfSome o (GrantOrGap missing bay reply) → {B : Type 0} (f : Option Grant → B) (b : B) → option_map f o ≡ Some b → is_answer reply ≡ true
+  answer-of missing bay reply None h f b e = absurd (cc)
+  answer-of missing bay reply (Some (Some grant)) h f b e = ap (λ (g : Option Grant). is_some g || is_missing reply) h
+  answer-of missing bay reply (Some None) h f b e = ap (λ (x : Reply). is_answer x) h.1
 
   claim-answer : (keep : Option Grant → Row → Row) (row : RowNo) (id : Number) (mask : ℕ) (want : Bool) (taken later : Taken) (bay : BayNo) (reply : Reply) → fits (Claim row id Seize mask want) reply ≡ true →
       (taking None keep).step taken (record { bay = bay; request = Claim row id Seize mask want }) reply ≡ Some later → is_answer reply ≡ true
   claim-answer keep row id mask want taken later bay reply fit e =
-      answer-of reply (unless (refusal None taken.missing bay reply) (grant_of reply))
+      answer-of taken.missing bay reply (unless (refusal None taken.missing bay reply) (grant_of reply))
       (take-told (Claim row id Seize mask want) (claim-takes row id Seize mask want) None taken.missing bay reply fit) (with_grant keep taken bay) later e
 
   module _ (f : Walk Taken → Steps Finish) (off : (taken : Taken) (e : Errand) (reply : Reply) (done : List BayNo) → Answering done (f (Stopped taken e reply))) where
