@@ -1,8 +1,10 @@
 -- Laws of rows: commits, covered puts, the order of numbers and lost blocks.
-use Rattle.std.specs.Prelude.{◌≡◌, ◌⊎◌, ℕ, ◌+◌, ◌<◌, true, if◌then◌else◌, List, [], ◌∷◌, ◌++◌, Option, Some, None, IsNone}
+use Rattle.std.specs.Prelude.{◌≡◌, ◌⊎◌, ℕ, ◌+◌, ◌<◌, Bool, true, if◌then◌else◌, List, [], ◌∷◌, ◌++◌, Option, Some, None, IsNone}
 use Rattle.raid_base.specs.declared.numbers.RowNo.{RowNo}
 use Rattle.raid_base.specs.declared.numbers.Number.{Number}
 use Rattle.raid_base.specs.declared.messages.Note.{Note}
+use Rattle.raid_base.specs.declared.messages.How.TheVariants.{Plain}
+use Rattle.raid_base.specs.declared.messages.Request.TheVariants.{Claim}
 use Rattle.raid_base.specs.declared.messages.Call.{Call}
 use Rattle.raid_base.specs.Cells.{has_unit}
 use Rattle.raid_base.specs.Replies.{is_done}
@@ -14,7 +16,6 @@ use Rattle.histories.specs.Progress.{Work, Trying}
 use Rattle.histories.specs.History.{IsHistory, progress_at}
 use Rattle.histories.specs.RowStates.{slot_at, cell_at}
 use Rattle.histories.specs.Calls.{Happened, row_of, write_of, read_of, IsPut, IsDone}
-use Rattle.histories.specs.Torn.{IsWriteClaim}
 use Rattle.histories.specs.Results.{NamesLostRightly}
 use Rattle.histories.specs.Accesses.{writes, reads, AllBelow}
 
@@ -31,8 +32,12 @@ abbrev pub IsOrigin : Number → ℕ → Option Note → Type 0
 IsOrigin id unit None = ⊥
 IsOrigin id unit (Some note) = (note.origin ≡ id) × (has_unit note.mask unit ≡ true)
 
+-- a write claims the parity of the row with this id, whatever it is answered
+abbrev pub IsParityClaim : ℕ → RowNo → Number → Call → Type 0
+IsParityClaim n row id call = (call.bay ≡ parity_bay n row) × (mask : ℕ) × (want : Bool) × (call.ask.what ≡ Claim row id Plain mask want)
+
 abbrev pub IsWrite : ℕ → RowNo → Number → List Call → Type 0
-IsWrite n row id calls = (mask : ℕ) × Happened (IsWriteClaim n row id mask) calls
+IsWrite n row id calls = Happened (IsParityClaim n row id) calls
 
 abbrev pub IsPutSince : ℕ → RowNo → List Call → Type 0
 IsPutSince n row later = Happened (λ call. (id : Number) × IsPut (parity_bay n row) row id call × IsDone call) later

@@ -48,7 +48,7 @@ pub fn commits_are_of_owners()
 {}
 
 /// Puts are covered: where a write has put a unit of a row and the row's parity was not put since, the parity has no cell, or a
-/// note that came from that write and has the unit.
+/// note that came from that write and has the unit. A write is what has claimed the parity with its id, whatever it was answered.
 pub fn puts_are_covered()
     ensures { PutsAreCovered }
 {}

@@ -34,7 +34,7 @@ use Rattle.histories.specs.History.{IsHistory, progress_at, bay_at}
 use Rattle.histories.specs.RowStates.{slot_at, cell_at}
 use Rattle.row_laws.specs.Hands.{HasHand, calls_at, IsPutter, IsRecoveryOf, IsAnswered}
 use Rattle.row_laws.specs.Holding.{HasNote, CameFrom, Owns}
-use Rattle.row_laws.specs.Laws.{IsOrigin, IsWrite, IsPutSince, PutsAreCovered}
+use Rattle.row_laws.specs.Laws.{IsOrigin, IsParityClaim, IsWrite, IsPutSince, PutsAreCovered}
 use Rattle.row_laws.proofs.hands.HandMoves.{Stays, Came, Stayed, Begun, Went, came, id-is-own}
 use Rattle.row_laws.proofs.hands.HandClaims.{kind_of, made-kind, next-kind, next-untaken, claimed-taken, recovers-seize, seize-recovers}
 use Rattle.row_laws.proofs.holders.AnsweredFreeNotes.{Takes, note-came}
@@ -57,6 +57,12 @@ none-some (Some x) e h = absurd (cc)
 pub came-some : (id : Number) (o : Option Note) → CameFrom id o → (note : Note) × (o ≡ Some note) × (note.origin ≡ id)
 came-some id None h = absurd h
 came-some id (Some note) h = (note, refl, h)
+
+-- a write whose claim of the parity was granted is one
+pub granted-write : (n : ℕ) (row : RowNo) (id : Number) (mask : ℕ) (calls : List Call) → Happened (IsWriteClaim n row id mask) calls → IsWrite n row id calls
+granted-write n row id mask [] h = h
+granted-write n row id mask (c ∷ calls) (inl h) = inl (h.0, mask, h.1, h.2)
+granted-write n row id mask (c ∷ calls) (inr h) = inr (granted-write n row id mask calls h)
 
 -- what has happened has happened in a longer history
 pub happened-later : (Q : Call → Type 0) (later earlier : List Call) (call : Call) → Happened Q (call ∷ earlier) → Happened Q (later ++ call ∷ earlier)
@@ -327,7 +333,7 @@ module _ (script : Script) (is : IsScript script) (row : RowNo) (below : row.0 <
   covered (c ∷ later) earlier call along write put done none =
       covered-on (later ++ call ∷ earlier) c along (λ by is_put is_done. none (inl (by, is_put, is_done)))
       (happened-later (IsPut U row id) later earlier call (inl put))
-      (write.0, happened-later (IsWriteClaim script.n row id write.0) later earlier call (inr write.1))
+      (happened-later (IsParityClaim script.n row id) later earlier call (inr write))
       (covered later earlier call along.0 write put done (λ since. none (inr since)))
 
 -- a row that is none has no cell

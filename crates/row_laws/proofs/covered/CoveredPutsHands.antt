@@ -28,12 +28,12 @@ use Rattle.attempts.specs.Phases.{IsIn}
 use Rattle.script_text.specs.Script.{Script, parts_of}
 use Rattle.script_text.specs.Ranges.{IsScript}
 use Rattle.histories.specs.Calls.{Happened, id_of, IsClaim, IsPut}
-use Rattle.histories.specs.Torn.{ShowsLast, IsMissing, IsWriteClaim}
+use Rattle.histories.specs.Torn.{ShowsLast, IsMissing}
 use Rattle.histories.specs.Hands.{Led}
 use Rattle.histories.specs.Progress.{Progress, attempt}
 use Rattle.histories.specs.History.{IsHistory, progress_at}
 use Rattle.row_laws.specs.Hands.{HasHand, calls_at, IsPutter, IsRecoveryOf, IsAnswered}
-use Rattle.row_laws.specs.Laws.{IsWrite}
+use Rattle.row_laws.specs.Laws.{IsParityClaim, IsWrite}
 use Rattle.row_laws.proofs.hands.HandClaims.{kind_of, made-kind}
 use Rattle.row_laws.proofs.owners.RowOwnersTrees.{Asking, next-asking, settled-asking, led-asking, AreAnswered, RecoverAsks, recoveries-ask}
 use Rattle.row_laws.proofs.owners.RowOwnersHands.{happened-in, happened-own}
@@ -110,9 +110,9 @@ module _ (script : Script) (is : IsScript script) (row : RowNo) (unit : ℕ) (in
     -- what puts units with the id of a write is the write
     pub write-task : IsPutter h.hand.task → Writes h.hand.task
     write-task putter =
-        let claims : Happened (IsWriteClaim script.n row id write.0) Calls = own (λ c q. ap (λ (w : Request). id_of w) q.2) write.1 in
+        let claims : Happened (IsParityClaim script.n row id) Calls = own (λ c q. ap (λ (w : Request). id_of w) q.3) write in
         let found = happened-in Calls claims in
-        writing h.hand.task putter (made-kind script is history host steps h found.0 found.1 row id Plain write.0 found.2.1 found.2.2).0
+        writing h.hand.task putter (made-kind script is history host steps h found.0 found.1 row id Plain found.2.1 found.2.2 found.2.3).0
 
     module _ (w : Writes h.hand.task) where
       abbrev Keeping : List Call → Errand → Type 0

@@ -45,7 +45,7 @@ use Rattle.row_laws.proofs.commits.OwnedCommits.{commits_are_of_owners}
 use Rattle.serial_laws.proofs.contents.MendCommits.{rebuild-commits}
 use Rattle.row_laws.proofs.covered.CoveredPutsSlots.{Turn, Same, Bare, Taken, Marked, Freed, turned, IsGrantedClaim, origin-granted}
 use Rattle.row_laws.proofs.covered.CoveredPutsHands.{Writes, in-happened, no-unit}
-use Rattle.row_laws.proofs.covered.CoveredPuts.{came-some, Covered, happened-later, covered}
+use Rattle.row_laws.proofs.covered.CoveredPuts.{came-some, granted-write, Covered, happened-later, covered}
 use Rattle.row_laws.proofs.hands.HandMoves.{id-is-own}
 
 -- Commits. The last of some that is of the unit
@@ -211,7 +211,8 @@ module _ (script : Script) (is : IsScript script) (row : RowNo) (below : row.0 <
             happened-own script is earlier along.0 Host (asking).steps (asking).hand (errand_of call) (asking).asked
             (λ c q. ap (λ (w : Request). id_of w) q.1.0.3 ∙ ap (λ (x : Number). Some x) own-id)
             (in-happened (λ x. (x ≡ found.0) × IsGrantedClaim P row g.id note.mask x) found.0 earlier found.1 (refl, found.2)) in
-            (note.mask, in-happened (IsWriteClaim script.n row g.id note.mask) found.0 earlier found.1 (plain-claim note.mask found.0 found.2 mine))
+            granted-write script.n row g.id note.mask earlier
+            (in-happened (IsWriteClaim script.n row g.id note.mask) found.0 earlier found.1 (plain-claim note.mask found.0 found.2 mine))
 
   -- Along a history: a write has put the unit, and the parity was not put since
   record Since (history : List Call) : Type 0 where

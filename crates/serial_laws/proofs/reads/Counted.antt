@@ -42,7 +42,7 @@ use Rattle.row_laws.proofs.owners.RowOwnersCalls.{unit-in}
 use Rattle.row_laws.proofs.owners.RowOwnersTasks.{recovery-asks, rebuild-asks}
 use Rattle.row_laws.proofs.covered.CoveredPutsSlots.{IsGrantedClaim, origin-granted}
 use Rattle.row_laws.proofs.covered.CoveredPutsHands.{in-happened}
-use Rattle.row_laws.proofs.covered.CoveredPuts.{came-some, Covered, covered}
+use Rattle.row_laws.proofs.covered.CoveredPuts.{came-some, granted-write, Covered, covered}
 use Rattle.serial_laws.proofs.contents.ContentPutters.{own-noted, own-origin, mends-keep}
 use Rattle.serial_laws.proofs.contents.ContentPuts.{commits-are, may-put, mend-puts}
 use Rattle.serial_laws.proofs.contents.ContentRows.{Stands, stands}
@@ -314,10 +314,9 @@ module _ (script : Script) (is : IsScript script) (row : RowNo) (below : row.0 <
               let claim : IsGrantedClaim (P) row id note.mask c.0 = c.2.1 in
               let kind : claim.0.1 ≡ Plain = (made-kind script is earlier call.ask.host a.steps a.hand c.0 c.1 row id claim.0.1 note.mask claim.0.2 claim.0.3).0 ∙ plain in
               let write : IsWriteClaim script.n row id note.mask c.0 =
-              (claim.0.0, claim.0.2, claim.0.3 ∙ ap (λ (how : How). Claim row id how note.mask claim.0.2) kind, claim.1, claim.2) in (
-                note.mask,
-                in-happened (IsWriteClaim script.n row id note.mask) found.0 earlier found.1 (subst (λ (x : Call). IsWriteClaim script.n row id note.mask x) c.2.0 write),
-              )
+              (claim.0.0, claim.0.2, claim.0.3 ∙ ap (λ (how : How). Claim row id how note.mask claim.0.2) kind, claim.1, claim.2) in
+              granted-write script.n row id note.mask earlier
+              (in-happened (IsWriteClaim script.n row id note.mask) found.0 earlier found.1 (subst (λ (x : Call). IsWriteClaim script.n row id note.mask x) c.2.0 write))
 
       least : id.0 ≤ n.0
       least =
