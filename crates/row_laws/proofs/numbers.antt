@@ -9,3 +9,4 @@ pub mod RisenPuts
 pub mod RisenSlots
 pub mod RisenTrees
 pub mod RisingClaims
+pub mod ShownNumbers

@@ -1,10 +1,14 @@
 -- Laws of rows: commits, covered puts, the order of numbers and lost blocks.
 use Rattle.std.specs.Prelude.{◌≡◌, ◌⊎◌, ℕ, ◌+◌, ◌<◌, Bool, true, if◌then◌else◌, List, [], ◌∷◌, ◌++◌, Option, Some, None, IsNone}
+use Rattle.std.specs.List.{AllByRecursion}
+use Rattle.raid_base.specs.declared.numbers.BayNo.{BayNo}
 use Rattle.raid_base.specs.declared.numbers.RowNo.{RowNo}
 use Rattle.raid_base.specs.declared.numbers.Number.{Number}
 use Rattle.raid_base.specs.declared.messages.Note.{Note}
 use Rattle.raid_base.specs.declared.messages.How.TheVariants.{Plain}
 use Rattle.raid_base.specs.declared.messages.Request.TheVariants.{Claim}
+use Rattle.raid_base.specs.declared.messages.Reply.{Reply}
+use Rattle.raid_base.specs.declared.messages.Reply.TheVariants.{Granted, Late, Missing}
 use Rattle.raid_base.specs.declared.messages.Call.{Call}
 use Rattle.raid_base.specs.Cells.{has_unit}
 use Rattle.raid_base.specs.Replies.{is_done}
@@ -15,7 +19,7 @@ use Rattle.script_text.specs.Ranges.{IsScript}
 use Rattle.histories.specs.Progress.{Work, Trying}
 use Rattle.histories.specs.History.{IsHistory, progress_at}
 use Rattle.histories.specs.RowStates.{slot_at, cell_at}
-use Rattle.histories.specs.Calls.{Happened, row_of, write_of, read_of, IsPut, IsDone}
+use Rattle.histories.specs.Calls.{Happened, row_of, write_of, read_of, is_at, IsPut, IsDone}
 use Rattle.histories.specs.Results.{NamesLostRightly}
 use Rattle.histories.specs.Accesses.{writes, reads, AllBelow}
 
@@ -25,6 +29,24 @@ NumbersRise = (script : Script) (later earlier : List Call) (call : Call) (row :
     IsScript script → IsHistory script (later ++ call ∷ earlier) → row_of call.ask.what ≡ Some row →
     (write_of call.ask.what call.answer.reply ≡ Some n → AllBelow n (writes call.bay row earlier) × AllBelow n (reads script call.bay row earlier))
     × (read_of script.mode call.ask.what call.answer.reply ≡ Some n → AllBelow n (writes call.bay row earlier))
+
+-- a number of its slot that a reply shows: one of a grant's two, one that is above, or a floor
+abbrev pub ShowsOfSlot : Reply → Number → Type 0
+ShowsOfSlot (Granted cell read_no write_no last life seized) m = (m ≡ read_no) ⊎ (m ≡ write_no)
+ShowsOfSlot (Late above) m = m ≡ above
+ShowsOfSlot (Missing floor) m = m ≡ floor
+ShowsOfSlot _ m = ⊥
+
+-- what a call of the slot shows is below n
+abbrev pub ShowsBelow : BayNo → RowNo → Number → Call → Type 0
+ShowsBelow bay row n call = is_at bay row call ≡ true → (m : Number) → ShowsOfSlot call.answer.reply m → m.0 < n.0
+
+-- The number of a done put is above every number that its slot has ever shown, through all losses of its device.
+abbrev pub PutsAreAboveWhatWasShown : Type 0
+PutsAreAboveWhatWasShown = (script : Script) (earlier : List Call) (call : Call) (row : RowNo) (n : Number) →
+    IsScript script → IsHistory script (call ∷ earlier) →
+    row_of call.ask.what ≡ Some row → write_of call.ask.what call.answer.reply ≡ Some n →
+    AllByRecursion (ShowsBelow call.bay row n) earlier
 
 -- Covered puts: where a write's data put was done, and no parity put of its row since, the parity is missing, or its note came
 -- from that write and has the unit.

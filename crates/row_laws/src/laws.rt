@@ -1,7 +1,7 @@
 //! Laws of rows, each the contract of a function without a body.
 ghost use Rattle.row_laws.specs.Holding.{BlankNotesMend, UnitsAreOfWrites, AnsweredAreFree, HoldersKeepNotes, PuttersOwnRows, PutsAreOfOwners};
 ghost use Rattle.row_laws.specs.Commits.{CommitsAreOfOwners};
-ghost use Rattle.row_laws.specs.Laws.{PutsAreCovered, LostBlocksAreTorn, NumbersRise};
+ghost use Rattle.row_laws.specs.Laws.{PutsAreCovered, LostBlocksAreTorn, NumbersRise, PutsAreAboveWhatWasShown};
 ghost use Rattle.row_laws.specs.Effects.{AttemptsTellCommits};
 
 /// Where a slot has no cell its note is a rebuild's: after every history of a script a note on such a slot is its own origin,
@@ -64,6 +64,12 @@ pub fn lost_blocks_are_torn()
 /// of its slot, and the number of a read is above those of all earlier writes.
 pub fn numbers_rise()
     ensures { NumbersRise }
+{}
+
+/// The number of a put that was done is above every number that its slot has shown before: both of each grant, those that made
+/// requests late, and the floors while it was missing, through all losses of its device.
+pub fn puts_are_above_what_was_shown()
+    ensures { PutsAreAboveWhatWasShown }
 {}
 
 /// An attempt tells by its end what it has committed: a write just the blocks that it tells as made, all where it is done and none

@@ -202,10 +202,15 @@ module _ (script : Script) (is : IsScript script) (earlier : List Call) (call : 
       by true e = absurd (let bad : None ≡ Some note = sym (empty-bare script is call.bay row below earlier along.0 e) ∙ noted in cc)
       by false e = refl
 
-  -- A put
-  put-rises : (r : RowNo) (pid n : Number) (cell : Cell) → call.ask.what ≡ Put r pid n cell → call.answer.reply ≡ Done →
-      AllBelow n (writes call.bay row earlier) × AllBelow n (reads script call.bay row earlier)
-  put-rises r pid n cell what done =
+  -- A put: its number is above those of the slot, whose device is there
+  pub record IsAbove (n : Number) : Type 0 where
+    pub below : row.0 < script.rows
+    pub there : bay.empty ≡ false
+    pub write : slot.write_no.0 < n.0
+    pub read : slot.read_no.0 < n.0
+
+  pub put-low : (r : RowNo) (pid n : Number) (cell : Cell) → call.ask.what ≡ Put r pid n cell → call.answer.reply ≡ Done → IsAbove n
+  put-low r pid n cell what done =
       let noted = noted-by slot.note pid
       (put-noted bay call.ask slot r pid n cell call.ask.what (outcome_at bay row call).reply (outcome_at bay row call).slot does what (sym reply-is ∙ done)) in
       let own : pid ≡ a.hand.hand.id = is-own pid (ap (λ (w : Request). id_of w) what) in
@@ -214,7 +219,13 @@ module _ (script : Script) (is : IsScript script) (earlier : List Call) (call : 
       let below : row.0 < script.rows = noted-row noted.0 noted.1 in
       let there : bay.empty ≡ false = noted-there below noted.0 noted.1 in
       let low = low-noted below noted.0 noted.1 (noted.2 ∙ own) n may.2 in
-      (writes-below below there n low.0, reads-below below there n low.1)
+      record { below = below; there = there; write = low.0; read = low.1 }
+
+  put-rises : (r : RowNo) (pid n : Number) (cell : Cell) → call.ask.what ≡ Put r pid n cell → call.answer.reply ≡ Done →
+      AllBelow n (writes call.bay row earlier) × AllBelow n (reads script call.bay row earlier)
+  put-rises r pid n cell what done =
+      let low = put-low r pid n cell what done in
+      (writes-below low.below low.there n low.write, reads-below low.below low.there n low.read)
 
   -- A read under stamps
   share-rises : (r : RowNo) (n : Number) (want : Bool) → script.mode ≡ Order → call.ask.what ≡ Share r n want → IsSome (grant_of call.answer.reply) → AllBelow n (writes call.bay row earlier)
