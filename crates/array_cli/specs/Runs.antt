@@ -42,8 +42,8 @@ handed_out g outcome = record {
 -- The play of a script. The headline: what is handed out is the play's; its results and contents are those of a serial array that runs
 -- them in the order of their numbers, and each block that is shown at the end is that array's; the parity is kept at every moment; lost
 -- blocks are named rightly; each result that gives a cause has it. Besides, what is shown of a unit at the end is the content that it
--- took last. An attempt of a read or write that meets no refusal goes on, or its job is done with it; so each whose last attempt met
--- none is done; and where one host alone reads and writes and no bay has answered Fault each job that has parts is done at its first
+-- took last. An attempt of a read or write that no reply refuses goes on, or its job is done with it; so each whose last attempt none
+-- has refused is done; and where one host alone reads and writes and no bay has answered Fault each job that has parts is done at its first
 -- attempt.
 pub record IsPlayed (script : Script) (outcome : PlayOutcome) (history : List Call) : Type 0 where
   pub headline : Headline script history outcome

@@ -250,10 +250,10 @@ module _ (script : Script) (is : IsScript script) (at : BayNo) (row : RowNo) (be
     covered-by : (b : Bool) → (call.bay.0 == at.0) ≡ b → AllByRecursion (AreCovered (if_ruled bay call b)) (call ∷ earlier)
     covered-by true here = (
       (λ h m shows.
-      now-covered bay after row call.ask (rule bay call.ask fails).reply up caps (mine h).1 step told m
-      (subst (λ (r : Reply). ShowsOfSlot r m) (reply-is here) shows)),
+          now-covered bay after row call.ask (rule bay call.ask fails).reply up caps (mine h).1 step told m
+          (subst (λ (r : Reply). ShowsOfSlot r m) (reply-is here) shows)),
       all-calls (AreCovered bay) (AreCovered after) earlier
-      (λ c old h m shows. still-covered bay after row call.ask (rule bay call.ask fails).reply up m step (old h m shows)) before
+          (λ c old h m shows. still-covered bay after row call.ask (rule bay call.ask fails).reply up m step (old h m shows)) before,
     )
     covered-by false other = ((λ h. absurd (let bad : true ≡ false = sym (mine h).0 ∙ other in cc)), before)
 
