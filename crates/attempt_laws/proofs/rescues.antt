@@ -1,4 +1,7 @@
--- A recovery that goes through leaves its row closed.
+-- What recoveries leave.
+pub mod NoteBays
+pub mod NoteHosts
+pub mod NoteTrees
 pub mod RescueBays
 pub mod RescueHosts
 pub mod RescueSlots

@@ -1,3 +1,4 @@
 pub mod Calm
+pub mod Leftovers
 pub mod Lone
 pub mod Rescues

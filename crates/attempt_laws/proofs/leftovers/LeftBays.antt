@@ -122,11 +122,11 @@ module _ (script : Script) (is : IsScript script) where
         by (inl l) = one l.0 l.1
         by (inr e) = inl (ap (λ (s : Slot). s.note) (sym e) ∙ f)
 
-    abbrev ReaderFrom : BayNo → RowNo → Reader → Type 0
+    abbrev pub ReaderFrom : BayNo → RowNo → Reader → Type 0
     ReaderFrom at row x =
         IsIn x (slot_at script earlier at row).readers ⊎ ((call.bay ≡ at) × (row_of call.ask.what ≡ Some row) × SharedBy script.mode call.ask r x call.ask.what)
 
-    reader-from : (at : BayNo) (row : RowNo) → row.0 < script.rows → (x : Reader) → IsIn x (slot_at script (call ∷ earlier) at row).readers → ReaderFrom at row x
+    pub reader-from : (at : BayNo) (row : RowNo) → row.0 < script.rows → (x : Reader) → IsIn x (slot_at script (call ∷ earlier) at row).readers → ReaderFrom at row x
     reader-from at row below x f = by (lot at row below)
       where
         its : call.bay ≡ at → row_of call.ask.what ≡ Some row → IsIn x (slot_at script earlier at row).readers ⊎ SharedBy script.mode call.ask r x call.ask.what → ReaderFrom at row x
@@ -344,8 +344,8 @@ module _ (script : Script) (is : IsScript script) where
     reader-may jobs endings calls seen (Fitting bay) w at row x n = may-cover endings calls x (w.readers at row x n)
     reader-may jobs endings calls seen Over w at row x n = may-cover endings calls x (w.readers at row x n)
 
-pub refused_attempts_leave_nothing : RefusedLeaveNothing
-refused_attempts_leave_nothing script history is h at row within below = (
+pub refused-leave : RefusedLeaveNothing
+refused-leave script history is h at row within below = (
   λ note f.
       let p : Progress = progress_at script note.host history in
       note-may script is history note.host p.jobs p.endings p.calls p.seen p.work (host-safe script is history h note.host).work at row note.id (note, below, f, refl, refl),

@@ -62,10 +62,10 @@ same-row (Release row id n) = refl
 same-row Lose = refl
 same-row Fit = refl
 
-own-row : (row : RowNo) → is_row row (Some row) ≡ true
+pub own-row : (row : RowNo) → is_row row (Some row) ≡ true
 own-row row = grind (arith, nat_tests)
 
-same-place : (at bay : BayNo) (row there : RowNo) → is_slot (on at row) (on bay there) ≡ true → (at ≡ bay) × (row ≡ there)
+pub same-place : (at bay : BayNo) (row there : RowNo) → is_slot (on at row) (on bay there) ≡ true → (at ≡ bay) × (row ≡ there)
 same-place at bay row there e =
     let b : at.0 ≡ bay.0 = grind (arith, nat_tests) in
     let w : row.0 ≡ there.0 = grind (arith, nat_tests) in
@@ -89,14 +89,14 @@ module _ (script : Script) (is : IsScript script) where
       by false own before f = before f
 
   module _ (host : HostNo) (id : Number) (row : RowNo) (low : row.0 < script.rows) where
-    abbrev r : Rescue
+    abbrev pub r : Rescue
     r = rescue_of script host id row
 
-    abbrev held : List Call → List Holding
+    abbrev pub held : List Call → List Holding
     held cs = held_of script.mode cs
 
     -- once a claim of the slot was answered, a note there is the recovery's, which holds the slot
-    abbrev Kept : List Call → List Call → BayNo → Type 0
+    abbrev pub Kept : List Call → List Call → BayNo → Type 0
     Kept history cs at = Happened (IsAnswered at row) cs → (note : Note) → (slot_at script history at row).note ≡ Some note → (note.id ≡ id) × Holds (on at row) (held cs)
 
     module _ (earlier : List Call) (call : Call) (h : IsHistory script earlier) (next : IsNext script earlier call) (cs : List Call) (at : BayNo) (kept : Kept earlier cs at) where
@@ -118,10 +118,10 @@ module _ (script : Script) (is : IsScript script) where
           (subst (λ (b : BayNo). Holds (on b row) (held_after script.mode (held cs) call.bay (Claim row id how mask want) call.answer.reply)) place (claimed-new (on call.bay row) (grant_of call.answer.reply) (held cs) some))
 
       -- what it gives back has no note of it
-      abbrev Now : RowNo → Slot
+      abbrev pub Now : RowNo → Slot
       Now there = slot_at script (call ∷ earlier) call.bay there
 
-      freed : (there : RowNo) → there.0 < script.rows → row_of call.ask.what ≡ Some there → Frees call.answer.reply (Now there) call.ask.what ⊎ ((Now there).note ≡ None)
+      pub freed : (there : RowNo) → there.0 < script.rows → row_of call.ask.what ≡ Some there → Frees call.answer.reply (Now there) call.ask.what ⊎ ((Now there).note ≡ None)
       freed there below asked = by (own-lot script is earlier call next there below)
         where
           by : LotAt script is earlier call next call.bay there → Frees call.answer.reply (Now there) call.ask.what ⊎ ((Now there).note ≡ None)
@@ -129,17 +129,17 @@ module _ (script : Script) (is : IsScript script) where
           by (Same e other) = absurd (let bad : true ≡ false = sym (own-row there) ∙ ap (λ (x : Option RowNo). is_row there x) (sym asked) ∙ other in cc)
           by (Bare n e) = inr (ap (λ (s : Slot). s.note) e)
 
-      there-noted : (there : RowNo) (note : Note) → (at ≡ call.bay) × (row ≡ there) → (slot_at script (call ∷ earlier) at row).note ≡ Some note → (Now there).note ≡ Some note
+      pub there-noted : (there : RowNo) (note : Note) → (at ≡ call.bay) × (row ≡ there) → (slot_at script (call ∷ earlier) at row).note ≡ Some note → (Now there).note ≡ Some note
       there-noted there note place f =
           subst (λ (w : RowNo). (slot_at script (call ∷ earlier) call.bay w).note ≡ Some note) place.1 (subst (λ (b : BayNo). (slot_at script (call ∷ earlier) b row).note ≡ Some note) place.0 f)
 
-      unput : (p : PutEnd) (there : RowNo) (by : Number) → GivesPut p → Unputs by (Now there) p → (note : Note) → (Now there).note ≡ Some note → note.id ≡ by → ⊥
+      pub unput : (p : PutEnd) (there : RowNo) (by : Number) → GivesPut p → Unputs by (Now there) p → (note : Note) → (Now there).note ≡ Some note → note.id ≡ by → ⊥
       unput Made there by give u note f own = u (note, f, own)
       unput (Unnoted life) there by give u note f own = u (note, f, own)
       unput Failed there by give u note f own = give
 
-      unnoted : (what : Request) → call.ask.what ≡ what → IsOwnAsk r what → (note : Note) → note.id ≡ id → (slot_at script (call ∷ earlier) at row).note ≡ Some note → Gives call.bay what call.answer.reply (on at row) → ⊥
-      unnoted (Share there by want) same mine note own f give = give
+      unnoted : (what : Request) → call.ask.what ≡ what → IsOwnAsk r call.bay what → (note : Note) → note.id ≡ id → (slot_at script (call ∷ earlier) at row).note ≡ Some note → Gives call.bay what call.answer.reply (on at row) → ⊥
+      unnoted (Share there by want) same mine note own f give = mine
       unnoted (Claim there by how mask want) same mine note own f give = give
       unnoted (Confirm there by want) same mine note own f give = give
       unnoted Lose same mine note own f give = give
@@ -162,7 +162,7 @@ module _ (script : Script) (is : IsScript script) where
           go below g = last (subst (λ (w : Request). Frees call.answer.reply (Now there) w ⊎ ((Now there).note ≡ None)) same (freed there below (ap (λ (w : Request). row_of w) same)))
             where
               last : Frees call.answer.reply (Now there) (Put there by n cell) ⊎ ((Now there).note ≡ None) → ⊥
-              last (inl x) = unput (put_end call.answer.reply) there by give.1 x note g (own ∙ sym mine)
+              last (inl x) = unput (put_end call.answer.reply) there by give.1 x note g (own ∙ sym mine.0)
               last (inr e) = let bad : None ≡ Some note = sym e ∙ g in cc
 
       -- a claim of the slot that was answered now
@@ -187,15 +187,15 @@ module _ (script : Script) (is : IsScript script) where
           (sym (ap is_answer told) ∙ answer) note (sym (ap (λ (s : Slot). s.note) now) ∙ f) in
           (own.0, subst (λ (x : Reply). IsSome (grant_of x)) (sym told) own.1)
 
-      kept-own : IsOwnAsk r call.ask.what → Kept (call ∷ earlier) (call ∷ cs) at
+      kept-own : IsOwnAsk r call.bay call.ask.what → Kept (call ∷ earlier) (call ∷ cs) at
       kept-own mine (inl now) note f =
-          let mine' : (now.1 ≡ id) × (now.2 ≡ Seize) × (row ≡ row) = subst (λ (w : Request). IsOwnAsk r w) now.5 mine in
+          let mine' : (now.1 ≡ id) × (now.2 ≡ Seize) × (row ≡ row) = subst (λ (w : Request). IsOwnAsk r call.bay w) now.5 mine in
           let asked : call.ask.what ≡ Claim row id Seize now.3 now.4 = now.5 ∙ ap (λ (x : Number). Claim row x now.2 now.3 now.4) mine'.0 ∙ ap (λ (w : How). Claim row id w now.3 now.4) mine'.1 in
           let own = claimed-now now.3 now.4 asked now.6 note (subst (λ (b : BayNo). (slot_at script (call ∷ earlier) b row).note ≡ Some note) (sym now.0) f) in
           (own.0, new-held now.3 now.4 Seize asked now.0 own.1)
       kept-own mine (inr before) note f = by (note-from script is earlier call next at row low note f)
         where
-          claimed : (what : Request) → call.ask.what ≡ what → IsOwnAsk r what → call.bay ≡ at → row_of what ≡ Some row → ClaimedBy call.ask call.answer.reply note what → (note.id ≡ id) × Holds (on at row) after_call
+          claimed : (what : Request) → call.ask.what ≡ what → IsOwnAsk r call.bay what → call.bay ≡ at → row_of what ≡ Some row → ClaimedBy call.ask call.answer.reply note what → (note.id ≡ id) × Holds (on at row) after_call
           claimed (Claim there by how mask want) same own place of_row c =
               let there_is : there ≡ row = cc in
               (c.1 ∙ own.0, new-held mask want how (same ∙ ap (λ (w : RowNo). Claim w by how mask want) there_is ∙ ap (λ (x : Number). Claim row x how mask want) own.0) place c.2)
@@ -216,13 +216,13 @@ module _ (script : Script) (is : IsScript script) where
     others-row : (call : Call) → (calls.row_of call.ask.what ≡ Some row → ⊥) → row_of call.ask.what ≡ Some row → ⊥
     others-row call away e = away (same-row call.ask.what ∙ e)
 
-    along : (during before : List Call) → IsHistory script (during ++ before) → OthersKeepOff host row during → AllByRecursion (λ (call : Call). IsOwnAsk r call.ask.what) (calls_by host during) → (at : BayNo) →
+    along : (during before : List Call) → IsHistory script (during ++ before) → OthersKeepOff host row during → AllByRecursion (λ (call : Call). IsOwnAsk r call.bay call.ask.what) (calls_by host during) → (at : BayNo) →
         Kept (during ++ before) (calls_by host during) at
     along [] before h off own at = λ answered. absurd answered
     along (call ∷ during) before h off own at = by (call.ask.host.0 == host.0) refl own (λ rest. along during before h.0 off.1 rest at)
       where
-        by : (b : Bool) → (call.ask.host.0 == host.0) ≡ b → AllByRecursion (λ (c : Call). IsOwnAsk r c.ask.what) (if b then call ∷ calls_by host during else calls_by host during) →
-            (AllByRecursion (λ (c : Call). IsOwnAsk r c.ask.what) (calls_by host during) → Kept (during ++ before) (calls_by host during) at) →
+        by : (b : Bool) → (call.ask.host.0 == host.0) ≡ b → AllByRecursion (λ (c : Call). IsOwnAsk r c.bay c.ask.what) (if b then call ∷ calls_by host during else calls_by host during) →
+            (AllByRecursion (λ (c : Call). IsOwnAsk r c.bay c.ask.what) (calls_by host during) → Kept (during ++ before) (calls_by host during) at) →
             Kept (call ∷ (during ++ before)) (if b then call ∷ calls_by host during else calls_by host during) at
         by true e mine more = kept-own (during ++ before) call h.0 h.1 (calls_by host during) at (more mine.1) mine.0
         by false e mine more =

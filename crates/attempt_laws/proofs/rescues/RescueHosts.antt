@@ -144,7 +144,7 @@ module _ (script : Script) (host : HostNo) where
   stop-closed row tries ends.Mended calls u = tt
 
   stop-facts : (task : Task) (tries : ℕ) (e : _) (t : Ended) (c : _) (k : Reply → Steps Finish) (calls : List Call) → TaskHand task calls (Asks e t c k) → FactsOf task (quit_end tries t) calls
-  stop-facts (tasks.Recover row) tries e t c k calls h = stop-closed row tries t calls h.1.0
+  stop-facts (tasks.Recover row) tries e t c k calls h = stop-closed row tries t calls h.1.1
   stop-facts (tasks.Read object first count) tries e t c k calls h = tt
   stop-facts (tasks.Write object first from count) tries e t c k calls h = tt
   stop-facts (tasks.Lose bay) tries e t c k calls h = tt

@@ -54,18 +54,20 @@ held_of mode (call ∷ earlier) = held_after mode (held_of mode earlier) call.ba
 -- it did not end as closed
 abbrev pub IsUnclosed : Ended → Type 0
 IsUnclosed (ends.Recovered n closed lost) = closed ≡ false
+IsUnclosed (ends.Read n) = ⊥
+IsUnclosed (ends.Wrote n) = ⊥
 IsUnclosed _ = Unit {0}
 
 module _ (r : Rescue) where
   -- a request of the recovery
-  abbrev pub IsOwnAsk : Request → Type 0
-  IsOwnAsk (Share row by want) = Unit {0}
-  IsOwnAsk (Claim row by how mask want) = (by ≡ r.id) × (how ≡ Seize) × (row ≡ r.row)
-  IsOwnAsk (Confirm row by want) = Unit {0}
-  IsOwnAsk (Put row by n cell) = by ≡ r.id
-  IsOwnAsk (Release row by n) = by ≡ r.id
-  IsOwnAsk Lose = ⊥
-  IsOwnAsk Fit = ⊥
+  abbrev pub IsOwnAsk : BayNo → Request → Type 0
+  IsOwnAsk bay (Share row by want) = ⊥
+  IsOwnAsk bay (Claim row by how mask want) = (by ≡ r.id) × (how ≡ Seize) × (row ≡ r.row)
+  IsOwnAsk bay (Confirm row by want) = by ≡ r.id
+  IsOwnAsk bay (Put row by n cell) = (by ≡ r.id) × (bay ≡ parity_bay r.n row)
+  IsOwnAsk bay (Release row by n) = by ≡ r.id
+  IsOwnAsk bay Lose = ⊥
+  IsOwnAsk bay Fit = ⊥
 
   -- the bays of which a claim was answered
   abbrev answered : BayNo → Request → Reply → List BayNo → List BayNo
@@ -79,14 +81,16 @@ module _ (r : Rescue) where
   AnsweredAll done (ends.Recovered n closed lost) = AllIn done
   AnsweredAll done _ = Unit {0}
 
-  abbrev OfRow : Request → Type 0
-  OfRow (Claim row by how mask want) = row ≡ r.row
-  OfRow _ = Unit {0}
+  abbrev OfRow : BayNo → Request → Type 0
+  OfRow bay (Claim row by how mask want) = row ≡ r.row
+  OfRow bay (Put row by n cell) = bay ≡ parity_bay r.n row
+  OfRow bay (Share row by want) = ⊥
+  OfRow bay _ = Unit {0}
 
   abbrev Answering : List BayNo → Steps Finish → Type 0
   Answering done (Ends f) = AnsweredAll done f.ended
   Answering done (Draws k) = (d : Result Number Spent) → Answering done (k d)
-  Answering done (Asks e s c k) = OfRow e.request × IsUnclosed s × ((reply : Reply) → fits e.request reply ≡ true → Answering (answered e.bay e.request reply done) (k reply))
+  Answering done (Asks e s c k) = OfRow e.bay e.request × IsUnclosed s × ((reply : Reply) → fits e.request reply ≡ true → Answering (answered e.bay e.request reply done) (k reply))
 
   if-more : (b : Bool) (bay at : BayNo) (done : List BayNo) → IsIn at done → IsIn at (if b then bay ∷ done else done)
   if-more true bay at done i = inr i
@@ -103,7 +107,7 @@ module _ (r : Rescue) where
 
   -- walks after which all that was answered still is
   abbrev AllOf : List Errand → Type 0
-  AllOf es = AllByRecursion (λ (e : Errand). OfRow e.request) es
+  AllOf es = AllByRecursion (λ (e : Errand). OfRow e.bay e.request) es
 
   releases-of : (id : Number) (row : RowNo) (n : Option Number) (bays : List BayNo) → AllOf (releases id row n bays)
   releases-of id row n [] = tt
@@ -162,7 +166,7 @@ module _ (r : Rescue) where
   by-answers n row Leaves done g = released-answers (granted_data r row ++ parity_granted r.n r.row row.parity) (ends.Recovered n true None) done g
   by-answers n row (Sums lost) done g =
       rises-run AllIn all-rises (recover_putting r lost) (recover_put r row n lost) (λ u. tt) (put-answers n row lost)
-      (put r.id r.row n (recovered_parity row lost) (parity_bay r.n r.row) ∷ []) (tt, tt) done g tt
+      (put r.id r.row n (recovered_parity row lost) (parity_bay r.n r.row) ∷ []) (refl, tt) done g tt
 
   drawn-answers : (row : Row) (d : Result Number Spent) (done : List BayNo) → AllIn done → Answering done (recover_drawn r row d)
   drawn-answers row (Err spent) done g = recover-refuses row (causes.Spent spent.seen) done
@@ -250,25 +254,26 @@ module _ (r : Rescue) where
 
   -- what is so of the calls of a recovery that has gone through
   pub record IsRescue (mode : Mode) (calls : List Call) : Type 0 where
-    pub own : AllByRecursion (λ (call : Call). IsOwnAsk call.ask.what) calls
+    pub own : AllByRecursion (λ (call : Call). IsOwnAsk call.bay call.ask.what) calls
     pub none : held_of mode calls ≡ []
     pub all : (bay : BayNo) → IsIn bay (parity_first r.n r.row) → Happened (IsAnswered bay r.row) calls
 
   abbrev pub RescueEnd : Mode → List Call → Ended → Type 0
   RescueEnd mode calls (ends.Recovered n closed lost) = IsRescue mode calls
-  RescueEnd mode calls _ = Unit {0}
+  RescueEnd mode calls (ends.Refused cause) = RecoveryHolds (held_of mode calls) (ends.Refused cause)
+  RescueEnd mode calls _ = ⊥
 
   -- Whatever the replies that fit and the numbers drawn, after these calls
   abbrev pub Rescues : Mode → List Call → Steps Finish → Type 0
   Rescues mode calls (Ends f) = RescueEnd mode calls f.ended
   Rescues mode calls (Draws k) = (d : Result Number Spent) → Rescues mode calls (k d)
-  Rescues mode calls (Asks e s c k) = IsUnclosed s × ((call : Call) → errand_of call ≡ e → fits call.ask.what call.answer.reply ≡ true → Rescues mode (call ∷ calls) (k call.answer.reply))
+  Rescues mode calls (Asks e s c k) = IsOwnAsk e.bay e.request × IsUnclosed s × ((call : Call) → errand_of call ≡ e → fits call.ask.what call.answer.reply ≡ true → Rescues mode (call ∷ calls) (k call.answer.reply))
 
-  own-ask : (past : Past) (bay : BayNo) (what : Request) → MayAsk r.n r.id past bay what → ClaimsSo r.n Seize bay what → OfRow what → IsOwnAsk what
-  own-ask past bay (Share row by want) may so of = tt
+  own-ask : (past : Past) (bay : BayNo) (what : Request) → MayAsk r.n r.id past bay what → ClaimsSo r.n Seize bay what → OfRow bay what → IsOwnAsk bay what
+  own-ask past bay (Share row by want) may so of = of
   own-ask past bay (Claim row by how mask want) may so of = (may.0, so.0, of)
-  own-ask past bay (Confirm row by want) may so of = tt
-  own-ask past bay (Put row by n cell) may so of = may.0
+  own-ask past bay (Confirm row by want) may so of = may.0
+  own-ask past bay (Put row by n cell) may so of = (may.0, of)
   own-ask past bay (Release row by n) may so of = may
   own-ask past bay Lose may so of = may
   own-ask past bay Fit may so of = may
@@ -277,56 +282,58 @@ module _ (r : Rescue) where
   abbrev AreTold : List BayNo → List Call → Type 0
   AreTold done calls = (bay : BayNo) → IsIn bay done → Happened (IsAnswered bay r.row) calls
 
-  told-more : (done : List BayNo) (calls : List Call) (call : Call) (what : Request) → call.ask.what ≡ what → OfRow what → AreTold done calls → AreTold (answered call.bay what call.answer.reply done) (call ∷ calls)
+  told-more : (done : List BayNo) (calls : List Call) (call : Call) (what : Request) → call.ask.what ≡ what → OfRow call.bay what → AreTold done calls → AreTold (answered call.bay what call.answer.reply done) (call ∷ calls)
   told-more done calls call (Claim row by how mask want) same of told = λ at i. go (is_answer call.answer.reply) refl at i
     where
       go : (b : Bool) → is_answer call.answer.reply ≡ b → (at : BayNo) → IsIn at (if b then call.bay ∷ done else done) → Happened (IsAnswered at r.row) (call ∷ calls)
       go true e at (inl own) = inl (own, by, how, mask, want, same ∙ ap (λ (x : RowNo). Claim x by how mask want) of, e)
       go true e at (inr i) = inr (told at i)
       go false e at i = inr (told at i)
-  told-more done calls call (Share row by want) same of told = λ at i. inr (told at i)
+  told-more done calls call (Share row by want) same of told = absurd of
   told-more done calls call (Confirm row by want) same of told = λ at i. inr (told at i)
   told-more done calls call (Put row by n cell) same of told = λ at i. inr (told at i)
   told-more done calls call (Release row by n) same of told = λ at i. inr (told at i)
   told-more done calls call Lose same of told = λ at i. inr (told at i)
   told-more done calls call Fit same of told = λ at i. inr (told at i)
 
-  ends-rescue : (mode : Mode) (calls : List Call) (held : List Holding) (done : List BayNo) → AllByRecursion (λ (call : Call). IsOwnAsk call.ask.what) calls → held_of mode calls ≡ held → AreTold done calls →
+  ends-rescue : (mode : Mode) (calls : List Call) (held : List Holding) (done : List BayNo) → AllByRecursion (λ (call : Call). IsOwnAsk call.bay call.ask.what) calls → held_of mode calls ≡ held → AreTold done calls →
       (f : Finish) → HasRecovered held f → (ended : Ended) → f.ended ≡ ended → AnsweredAll done ended → RescueEnd mode calls ended
   ends-rescue mode calls held done own same told f h (ends.Recovered n closed lost) e all = record {
     own = own;
     none = same ∙ subst (λ (x : Ended). RecoveryHolds held x) e h;
     all = λ bay i. told bay (all bay i);
   }
-  ends-rescue mode calls held done own same told f h (ends.Read n) e all = tt
-  ends-rescue mode calls held done own same told f h (ends.Wrote n) e all = tt
-  ends-rescue mode calls held done own same told f h (ends.Part n made cause) e all = tt
-  ends-rescue mode calls held done own same told f h (ends.Refused cause) e all = tt
-  ends-rescue mode calls held done own same told f h ends.Mended e all = tt
+  ends-rescue mode calls held done own same told f h (ends.Read n) e all = subst (λ (x : Ended). RecoveryHolds held x) e h
+  ends-rescue mode calls held done own same told f h (ends.Wrote n) e all = subst (λ (x : Ended). RecoveryHolds held x) e h
+  ends-rescue mode calls held done own same told f h (ends.Part n made cause) e all = subst (λ (x : Ended). RecoveryHolds held x) e h
+  ends-rescue mode calls held done own same told f h (ends.Refused cause) e all =
+      subst (λ (hs : List Holding). RecoveryHolds hs (ends.Refused cause)) (sym same) (subst (λ (x : Ended). RecoveryHolds held x) e h)
+  ends-rescue mode calls held done own same told f h ends.Mended e all = subst (λ (x : Ended). RecoveryHolds held x) e h
 
-  rescue-all : (mode : Mode) (past : Past) (held : List Holding) (done : List BayNo) (calls : List Call) (s : Steps Finish) → AllByRecursion (λ (call : Call). IsOwnAsk call.ask.what) calls →
+  rescue-all : (mode : Mode) (past : Past) (held : List Holding) (done : List BayNo) (calls : List Call) (s : Steps Finish) → AllByRecursion (λ (call : Call). IsOwnAsk call.bay call.ask.what) calls →
       held_of mode calls ≡ held → AreTold done calls → Keeps r.n r.id HasRepaired past s → EachClaims r.n Seize s → Returns mode HasRecovered held s → Answering done s → Rescues mode calls s
   rescue-all mode past held done calls (Ends f) own same told k c h a = ends-rescue mode calls held done own same told f h f.ended refl a
   rescue-all mode past held done calls (Draws g) own same told k c h a = λ d. rescue-all mode (after_number past d) held done calls (g d) own same told (k.2 d) (c d) (h d) (a d)
   rescue-all mode past held done calls (Asks e s o g) own same told k c h a = (
+    own-ask past e.bay e.request k.0 c.0 a.0,
     a.1,
     λ call is fit. by (own-ask past e.bay e.request k.0 c.0 a.0) a.0 call is fit (k.1 call.answer.reply) (c.1 call.answer.reply) (h call.answer.reply) (a.2 call.answer.reply)
         (λ p hs bs cs. rescue-all mode p hs bs cs (g call.answer.reply)),
   )
     where
-      by : IsOwnAsk e.request → OfRow e.request → (call : Call) → errand_of call ≡ e → fits call.ask.what call.answer.reply ≡ true → Keeps r.n r.id HasRepaired (after past e call.answer.reply) (g call.answer.reply) →
+      by : IsOwnAsk e.bay e.request → OfRow e.bay e.request → (call : Call) → errand_of call ≡ e → fits call.ask.what call.answer.reply ≡ true → Keeps r.n r.id HasRepaired (after past e call.answer.reply) (g call.answer.reply) →
           EachClaims r.n Seize (g call.answer.reply) → Returns mode HasRecovered (held_after mode held e.bay e.request call.answer.reply) (g call.answer.reply) →
           (fits e.request call.answer.reply ≡ true → Answering (answered e.bay e.request call.answer.reply done) (g call.answer.reply)) →
-          ((p : Past) (hs : List Holding) (bs : List BayNo) (cs : List Call) → AllByRecursion (λ (x : Call). IsOwnAsk x.ask.what) cs → held_of mode cs ≡ hs → AreTold bs cs → Keeps r.n r.id HasRepaired p (g call.answer.reply) →
+          ((p : Past) (hs : List Holding) (bs : List BayNo) (cs : List Call) → AllByRecursion (λ (x : Call). IsOwnAsk x.bay x.ask.what) cs → held_of mode cs ≡ hs → AreTold bs cs → Keeps r.n r.id HasRepaired p (g call.answer.reply) →
           EachClaims r.n Seize (g call.answer.reply) → Returns mode HasRecovered hs (g call.answer.reply) → Answering bs (g call.answer.reply) → Rescues mode cs (g call.answer.reply)) →
           Rescues mode (call ∷ calls) (g call.answer.reply)
       by mine of call is fit kk cc_ hh aa go =
           let place : call.bay ≡ e.bay = ap (λ (x : Errand). x.bay) is in
           let asked : call.ask.what ≡ e.request = ap (λ (x : Errand). x.request) is in
           go (after past e call.answer.reply) (held_after mode held e.bay e.request call.answer.reply) (answered e.bay e.request call.answer.reply done) (call ∷ calls)
-          (subst IsOwnAsk (sym asked) mine, own)
+          (subst (λ (x : Errand). IsOwnAsk x.bay x.request) (sym is) mine, own)
           (ap (λ (hs : List Holding). held_after mode hs call.bay call.ask.what call.answer.reply) same ∙ ap (λ (x : Errand). held_after mode held x.bay x.request call.answer.reply) is)
-          (subst (λ (b : BayNo). AreTold (answered b e.request call.answer.reply done) (call ∷ calls)) place (told-more done calls call e.request asked of told))
+          (subst (λ (b : BayNo). AreTold (answered b e.request call.answer.reply done) (call ∷ calls)) place (told-more done calls call e.request asked (subst (λ (b : BayNo). OfRow b e.request) (sym place) of) told))
           kk cc_ hh (aa (subst (λ (w : Request). fits w call.answer.reply ≡ true) asked fit))
 
   pub recoveries-rescue : (mode : Mode) → Rescues mode [] (recover_steps r)
@@ -339,8 +346,13 @@ module _ (r : Rescue) where
   settled-rescues mode host seen calls (Draws k) h = settled-rescues mode host (seen_drawn seen (draw host seen)) calls (k (draw host seen)) (h (draw host seen))
   settled-rescues mode host seen calls (Ends f) h = h
 
+  pub asks-rescue : (mode : Mode) (calls : List Call) (steps : Steps Finish) (e : Errand) → Rescues mode calls steps → next_errand steps ≡ Some e → IsOwnAsk e.bay e.request
+  asks-rescue mode calls (Asks x s c k) e h asked = let same : x ≡ e = cc in subst (λ (y : Errand). IsOwnAsk y.bay y.request) same h.0
+  asks-rescue mode calls (Draws k) e h asked = absurd (cc)
+  asks-rescue mode calls (Ends f) e h asked = absurd (cc)
+
   pub behind-rescues : (mode : Mode) (calls : List Call) (steps : Steps Finish) (call : Call) → Rescues mode calls steps → next_errand steps ≡ Some (errand_of call) → fits call.ask.what call.answer.reply ≡ true →
       Rescues mode (call ∷ calls) (behind steps call.answer.reply)
-  behind-rescues mode calls (Asks e s c k) call h asked fit = let same : e ≡ errand_of call = cc in h.1 call (sym same) fit
+  behind-rescues mode calls (Asks e s c k) call h asked fit = let same : e ≡ errand_of call = cc in h.2 call (sym same) fit
   behind-rescues mode calls (Draws k) call h asked fit = absurd (cc)
   behind-rescues mode calls (Ends f) call h asked fit = absurd (cc)
