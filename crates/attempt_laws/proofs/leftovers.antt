@@ -3,3 +3,4 @@ pub mod LeftBays
 pub mod LeftHosts
 pub mod LeftLeaves
 pub mod LeftTrees
+pub mod UnderWay

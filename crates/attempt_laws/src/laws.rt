@@ -5,7 +5,7 @@ ghost use Rattle.attempt_laws.specs.Calm.{CalmPlaysClose};
 ghost use Rattle.attempt_laws.specs.Rescues.{RecoveriesClose};
 
 /// A refused attempt leaves nothing: after every history of a script each note and each reader that stands in a slot has
-/// the id of an attempt of its host that is in hand, or that its host's stop has ended, or that was done in part. Only a
+/// the id of an attempt of its host that is in hand, or was done in part, or was under way when its host stopped. Only a
 /// recovery that has not ended as closed may leave more: its note on a slot whose note it has seized, and on the parity
 /// if its put of it answered Fault.
 pub fn refused_attempts_leave_nothing()

@@ -39,7 +39,7 @@ use Rattle.script_text.specs.Script.{Script, HostJobs, jobs_in, jobs_of}
 use Rattle.script_text.specs.Ranges.{IsScript, IsTask}
 use Rattle.histories.specs.Calls.{Happened}
 use Rattle.histories.specs.Causes.{MeetsCause}
-use Rattle.histories.specs.Leftovers.{HasLeft, IsQuit, MayLeave, IsSeizure}
+use Rattle.histories.specs.Leftovers.{IsQuit, IsSeizure}
 use Rattle.histories.specs.Progress.{Work, Trying, Losing, Fitting, Over, Progress, Ending, work_errand, is_over, sent_by}
 use Rattle.histories.specs.History.{IsHistory, IsNext, progress_at, if_taken, bay_at, if_ruled, endings_at, has_ended}
 use Rattle.histories.specs.RowStates.{slot_at, cell_at, row_cells, is_open, shown_at}
@@ -56,7 +56,7 @@ use Rattle.histories.proofs.steps.HostTasks.{host-tasks}
 use Rattle.histories.proofs.steps.SameNumbers.{same-bay, same-host}
 use Rattle.attempt_laws.specs.Lone.{AreFaultless}
 use Rattle.attempt_laws.specs.Calm.{IsCalmJob, IsCalm, CalmPlaysClose}
-use Rattle.attempt_laws.proofs.leftovers.LeftHosts.{Covered, SafeWork}
+use Rattle.attempt_laws.proofs.leftovers.LeftHosts.{MayLeave, HasLeft, Covered, SafeWork}
 use Rattle.attempt_laws.proofs.leftovers.LeftBays.{N, R, S, host-safe}
 use Rattle.attempt_laws.proofs.calm.CalmSlots.{IsNoted, Spares, note-stays, claim-notes, put-is-done}
 use Rattle.attempt_laws.proofs.calm.CalmHosts.{IsWhole, EndsWhole, Tame, IsFine, Calm, start-calm, asks-tame, Moves, calm-be, work-calm}
@@ -268,7 +268,7 @@ module _ (script : Script) (is : IsScript script) (calm : IsCalm script) where
   all-calm (call ∷ earlier) h works = next-calm earlier call h.0 h.1 works.0 (all-calm earlier h.0 works.1)
 
   -- Nothing is left
-  no-left : (host : HostNo) (x : Number) (es : List Ending) → AllByRecursion EndsWhole es → AllByRecursion (λ (e : Ending). MeetsCause script host e e.ended) es → HasLeft x es → ⊥
+  no-left : (host : HostNo) (x : Number) (es : List Ending) → AllByRecursion EndsWhole es → AllByRecursion (λ (e : Ending). MeetsCause script host e e.ended) es → HasLeft script host x es → ⊥
   no-left host x [] w m h = h
   no-left host x (e ∷ es) w m (inr h) = no-left host x es w.1 m.1 h
   no-left host x (e ∷ es) w m (inl h) = by e.ended h.1 (w.0).1 m.0
@@ -287,9 +287,9 @@ module _ (script : Script) (is : IsScript script) (calm : IsCalm script) where
       quit tries (causes.Seized n) q c = q
       quit tries (causes.Spent n) q c = q
 
-      by : (ended : JobEnd) → MayLeave ended → IsWhole ended → MeetsCause script host e ended → ⊥
+      by : (ended : JobEnd) → MayLeave script host e.job.task e.calls ended → IsWhole ended → MeetsCause script host e ended → ⊥
       by (job_ends.Part n made cause) leave whole c = whole
-      by (job_ends.Gave tries cause) leave whole c = quit tries cause leave c
+      by (job_ends.Gave tries cause) leave whole c = quit tries cause leave.0 c
       by (job_ends.Read n) leave whole c = leave
       by (job_ends.Wrote n) leave whole c = leave
       by (job_ends.Recovered n closed lost) leave whole c = leave
@@ -331,12 +331,12 @@ module _ (script : Script) (is : IsScript script) (calm : IsCalm script) where
         by (inl e) = is-over (progress_at script host history).work e
         by (inr none) = (idle-history script host history none).work
 
-    uncovered : (host : HostNo) (x : Number) → HasLeft x (endings_at script history host) → ⊥
+    uncovered : (host : HostNo) (x : Number) → HasLeft script host x (endings_at script history host) → ⊥
     uncovered host x left = by (few-or-idle 0 host script.hosts is.hosts)
       where
         by : (host.0 < 16) ⊎ (jobs_of script host ≡ []) → ⊥
         by (inl few) = no-left host x (endings_at script history host) (((all-calm history h works).hosts host few).sound).whole (causes_are_met script history is h host) left
-        by (inr none) = subst (HasLeft x) (idle-history script host history none).endings left
+        by (inr none) = subst (HasLeft script host x) (idle-history script host history none).endings left
 
     none-left : (at : BayNo) (row : RowNo) → row.0 < script.rows → (note : Note) → (slots history at row).note ≡ Some note → ⊥
     none-left at row low note f =

@@ -28,12 +28,13 @@ use Rattle.script_text.specs.Script.{Script}
 use Rattle.script_text.specs.Ranges.{IsScript}
 use Rattle.histories.specs.Calls.{Happened}
 use Rattle.histories.specs.Progress.{Work, Trying, Losing, Fitting, Over, Progress, Ending, work_errand}
-use Rattle.histories.specs.History.{IsHistory, IsNext, progress_at, if_taken, bay_at, if_ruled}
+use Rattle.histories.specs.History.{IsHistory, IsNext, progress_at, endings_at, if_taken, bay_at, if_ruled}
 use Rattle.histories.proofs.hands.Attempting.{sent-errand}
 use Rattle.histories.specs.RowStates.{slot_at}
-use Rattle.histories.specs.Leftovers.{HasId, HasLeft, IsSeizure, RefusedLeaveNothing}
+use Rattle.histories.specs.Leftovers.{HasId, IsSeizure}
 use Rattle.histories.proofs.steps.LeftSlots.{Apart, HasNote, HasReader, ClaimedBy, SharedBy, Unputs, Frees, LetsRow, Its, Same, Bare, row-lets}
-use Rattle.attempt_laws.proofs.leftovers.LeftHosts.{NewNote, NewReader, Covered, Mine, SafeWork, Safe, begins-safe, GonePut, Gone_by, Moves, Leaves_be, safe-be, work-safe}
+use Rattle.attempt_laws.proofs.leftovers.LeftHosts.{HasLeft, NewNote, NewReader, Covered, Mine, SafeWork, Safe, begins-safe, GonePut, Gone_by, Moves, Leaves_be, safe-be, work-safe}
+use Rattle.attempt_laws.proofs.leftovers.UnderWay.{IsWorkLed, hands-led}
 use Rattle.histories.proofs.steps.SameNumbers.{same-bay, same-host}
 use Rattle.histories.proofs.steps.HostTasks.{host-tasks}
 use Rattle.histories.proofs.steps.BayRows.{bay-rows, bay-mode, starts-first}
@@ -192,7 +193,8 @@ module _ (script : Script) (is : IsScript script) where
     Empty id row = (HasNote id (slot_at script (call ∷ earlier) call.bay row) → ⊥) × (HasReader id (slot_at script (call ∷ earlier) call.bay row) → ⊥)
 
     -- a call of the host
-    module _ (host : HostNo) (apart : (at : BayNo) (row : RowNo) → row.0 < script.rows → Apart (slot_at script earlier at row)) where
+    module _ (host : HostNo) (led : let p = progress_at script host earlier in IsWorkLed script host p.jobs p.calls p.seen p.work)
+        (apart : (at : BayNo) (row : RowNo) → row.0 < script.rows → Apart (slot_at script earlier at row)) where
       abbrev N' : BayNo → RowNo → Number → Type 0
       N' at row x = N host (call ∷ earlier) at row x
 
@@ -295,7 +297,7 @@ module _ (script : Script) (is : IsScript script) where
           by : (b : Bool) → (call.ask.host.0 == host.0) ≡ b → Safe script is host N' R' (S host (call ∷ earlier)) (if_taken script host (progress_at script host earlier) call b)
           by true own =
               work-safe script is host (N host earlier) (R host earlier) N' R' (S host earlier) (S host (call ∷ earlier)) (progress_at script host earlier) call (progress_at script host earlier).work
-              (own-errand own) fitted (moves (same-host call.ask.host host own)) s.sound s.work
+              (own-errand own) fitted (moves (same-host call.ask.host host own)) s.sound led s.work
           by false own =
               safe-be script is host (N host earlier) (R host earlier) N' R' (S host earlier) (S host (call ∷ earlier))
               (others (λ same. let bad : true ≡ false = sym (own-host call.ask.host) ∙ ap (λ (x : HostNo). call.ask.host.0 == x.0) same ∙ own in cc))
@@ -311,12 +313,12 @@ module _ (script : Script) (is : IsScript script) where
       (host-tasks script is host)
       (λ at row x n. let bad : None ≡ Some n.0 = ap (λ (s : Slot). s.note) (sym (starts-first script at row n.1)) ∙ n.2 in cc)
       (λ at row x n. subst (λ (s : Slot). IsIn n.0 s.readers) (starts-first script at row n.1) n.2)
-  host-safe (call ∷ earlier) h host = host-next earlier call h.1 host (λ at row below. apart-at earlier h.0 at row below) (host-safe earlier h.0 host)
+  host-safe (call ∷ earlier) h host = host-next earlier call h.1 host (hands-led script host earlier is h.0) (λ at row below. apart-at earlier h.0 at row below) (host-safe earlier h.0 host)
 
   -- what stands is of the attempt in hand, or covered
   module _ (history : List Call) (host : HostNo) where
     abbrev May : List Ending → List Call → Number → Type 0
-    May endings calls x = HasId x calls ⊎ (HasLeft x endings ⊎ S host history x)
+    May endings calls x = HasId x calls ⊎ (HasLeft script host x endings ⊎ S host history x)
 
     may-cover : (endings : List Ending) (calls : List Call) (x : Number) → Covered script is host (N host history) (R host history) (S host history) endings x → May endings calls x
     may-cover endings calls x (inl h) = inr (inl h)
@@ -344,7 +346,14 @@ module _ (script : Script) (is : IsScript script) where
     reader-may jobs endings calls seen (Fitting bay) w at row x n = may-cover endings calls x (w.readers at row x n)
     reader-may jobs endings calls seen Over w at row x n = may-cover endings calls x (w.readers at row x n)
 
-pub refused-leave : RefusedLeaveNothing
+-- the attempt of this host with this id is in hand, or may leave this, or is a recovery
+abbrev pub MayStand : Script → List Call → HostNo → Number → Type 0
+MayStand script history host id =
+    HasId id (progress_at script host history).calls ⊎ (HasLeft script host id (endings_at script history host) ⊎ Happened (IsSeizure host id) history)
+
+pub refused-leave : (script : Script) (history : List Call) → IsScript script → IsHistory script history → (at : BayNo) (row : RowNo) → at.0 < script.n → row.0 < script.rows →
+    ((note : Note) → (slot_at script history at row).note ≡ Some note → MayStand script history note.host note.id)
+    × ((reader : Reader) → IsIn reader (slot_at script history at row).readers → MayStand script history reader.host reader.id)
 refused-leave script history is h at row within below = (
   λ note f.
       let p : Progress = progress_at script note.host history in

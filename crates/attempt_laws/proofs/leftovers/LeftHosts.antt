@@ -45,7 +45,9 @@ use Rattle.histories.specs.declared.operator.Gone.{Gone}
 use Rattle.histories.specs.Operator.{is_gone}
 use Rattle.histories.specs.Calls.{id_of}
 use Rattle.histories.specs.Progress.{Work, Trying, Losing, Fitting, Over, Progress, Ending, endings_of, with_ending, next_job, attempt, try_with, one_more, try_task, parts_end, try_parts, lose_job, fit_job, rebuild_job, start_task, start_jobs, at_start, stops, go_on, job_ended, task_of, try_again, once_more, is_spent, attempt_refused, next_row, row_mended, attempt_ended, quit_end, asks_on, steps_left, work_errand, work_told, call_counted}
-use Rattle.histories.specs.Leftovers.{HasId, HasLeft, MayLeave}
+use Rattle.histories.specs.Leftovers.{HasId, IsQuit}
+use Rattle.attempt_laws.specs.Leftovers.{WasUnderWay}
+use Rattle.attempt_laws.proofs.leftovers.UnderWay.{IsLed, IsWorkLed, led-on, under-way}
 use Rattle.attempt_laws.proofs.leftovers.LeftTrees.{IfSeizes, StopsWell}
 use Rattle.attempt_laws.proofs.leftovers.LeftLeaves.{Aim, Aims, EndsWell, IsAsked, Leaving, told-leaves, settled-leaves, attempt-leads, draw-more, settled-more, on, Holds, claimed-new, Gives, GivesPut, after-holds}
 
@@ -54,14 +56,24 @@ settled-drawn host seen (Asks e t c k) = refl
 settled-drawn host seen (Draws k) = settled-drawn host (seen_drawn seen (draw host seen)) (k (draw host seen))
 settled-drawn host seen (Ends f) = refl
 
-left-more : (id : Number) (xs ys : List Ending) → HasLeft id xs → HasLeft id (xs ++ ys)
-left-more id [] ys h = absurd h
-left-more id (x ∷ xs) ys (inl h) = inl h
-left-more id (x ∷ xs) ys (inr h) = inr (left-more id xs ys h)
+-- a job whose attempt is no recovery ended as done in part, or where its host stopped while it was under way
+abbrev pub MayLeave : Script → HostNo → Task → List Call → JobEnd → Type 0
+MayLeave script host task calls (job_ends.Part n made cause) = Unit {0}
+MayLeave script host task calls (job_ends.Gave tries cause) = IsQuit cause × WasUnderWay script host task calls
+MayLeave script host task calls _ = ⊥
 
-left-last : (id : Number) (xs ys : List Ending) → HasLeft id ys → HasLeft id (xs ++ ys)
-left-last id [] ys h = h
-left-last id (x ∷ xs) ys h = inr (left-last id xs ys h)
+abbrev pub HasLeft : Script → HostNo → Number → List Ending → Type 0
+HasLeft script host id [] = ⊥
+HasLeft script host id (e ∷ endings) = (HasId id e.calls × MayLeave script host e.job.task e.calls e.ended) ⊎ HasLeft script host id endings
+
+left-more : (script : Script) (host : HostNo) (id : Number) (xs ys : List Ending) → HasLeft script host id xs → HasLeft script host id (xs ++ ys)
+left-more script host id [] ys h = absurd h
+left-more script host id (x ∷ xs) ys (inl h) = inl h
+left-more script host id (x ∷ xs) ys (inr h) = inr (left-more script host id xs ys h)
+
+left-last : (script : Script) (host : HostNo) (id : Number) (xs ys : List Ending) → HasLeft script host id ys → HasLeft script host id (xs ++ ys)
+left-last script host id [] ys h = h
+left-last script host id (x ∷ xs) ys h = inr (left-last script host id xs ys h)
 
 -- a note or a reader that comes with a call
 abbrev pub NewNote : BayNo → Request → Reply → BayNo → RowNo → Number → Type 0
@@ -86,7 +98,7 @@ NewReader mode bay Fit r at there x = ⊥
 module _ (script : Script) (is : IsScript script) (host : HostNo) where
   module _ (N R : BayNo → RowNo → Number → Type 0) (S : Number → Type 0) where
     abbrev pub Covered : List Ending → Number → Type 0
-    Covered endings x = HasLeft x endings ⊎ S x
+    Covered endings x = HasLeft script host x endings ⊎ S x
 
     pub record Sound (p : Progress) : Type 0 where
       pub tasks : AllByRecursion (λ (job : Job). IsTask script host job.task) p.jobs
@@ -131,7 +143,7 @@ module _ (script : Script) (is : IsScript script) (host : HostNo) where
 
     -- endings are added
     covered-more : (xs ys : List Ending) (x : Number) → Covered xs x → Covered (xs ++ ys) x
-    covered-more xs ys x (inl h) = inl (left-more x xs ys h)
+    covered-more xs ys x (inl h) = inl (left-more script host x xs ys h)
     covered-more xs ys x (inr h) = inr h
 
     all-more : (xs ys : List Ending) → AllCovered xs → AllCovered (xs ++ ys)
@@ -265,16 +277,16 @@ module _ (script : Script) (is : IsScript script) (host : HostNo) where
         by at row x (inl m) = absurd (subst (λ (hs : List Holding). Holds (on at row) hs) none (m.0).holds)
         by at row x (inr c) = c
 
-    left-covered : (p : Progress) (job : Job) (jobs : List Job) → p.jobs ≡ job ∷ jobs → (id : Number) (aim : Aim) (seizes : Bool) (held : List Holding) (e : JobEnd) (read : List Content) → MayLeave e →
+    left-covered : (p : Progress) (job : Job) (jobs : List Job) → p.jobs ≡ job ∷ jobs → (id : Number) (aim : Aim) (seizes : Bool) (held : List Holding) (e : JobEnd) (read : List Content) → MayLeave script host job.task p.calls e →
         Has p.endings p.calls id aim seizes held → AllCovered (with_ending p e read).endings
     left-covered p job jobs first id aim seizes held e read leave h = record { notes = λ at row x n. by at row x (h.notes at row x n); readers = λ at row x n. by at row x (h.readers at row x n) }
       where
-        ended : (x : Number) → HasId x p.calls → HasLeft x (endings_of p.jobs e read p)
-        ended x called = subst (λ (js : List Job). HasLeft x (endings_of js e read p)) (sym first) (inl (called, leave))
+        ended : (x : Number) → HasId x p.calls → HasLeft script host x (endings_of p.jobs e read p)
+        ended x called = subst (λ (js : List Job). HasLeft script host x (endings_of js e read p)) (sym first) (inl (called, leave))
 
         by : {P : Type 0} (at : BayNo) (row : RowNo) (x : Number) → (Mine id seizes held p.calls at row x × P) ⊎ Covered p.endings x → Covered (with_ending p e read).endings x
         by at row x (inl m) =
-            inl (left-last x p.endings (endings_of p.jobs e read p) (ended x (subst (λ (y : Number). HasId y p.calls) (sym (m.0).own) (m.0).called)))
+            inl (left-last script host x p.endings (endings_of p.jobs e read p) (ended x (subst (λ (y : Number). HasId y p.calls) (sym (m.0).own) (m.0).called)))
         by at row x (inr c) = covered-more p.endings (endings_of p.jobs e read p) x c
 
     module _ (p : Progress) (job : Job) (jobs : List Job) (first : p.jobs ≡ job ∷ jobs) (s : Sound p) where
@@ -298,34 +310,34 @@ module _ (script : Script) (is : IsScript script) (host : HostNo) where
       attempt-safe id aim false held h read ends.Mended well = seizing-safe read ends.Mended (freed-covered p.endings p.calls id aim false held well h)
 
       -- its host stops
-      stopped-covered : (id : Number) (aim : Aim) (seizes : Bool) (held : List Holding) (stop : Ended) → StopsWell seizes stop → Has p.endings p.calls id aim seizes held →
+      stopped-covered : (id : Number) (aim : Aim) (seizes : Bool) (held : List Holding) (stop : Ended) → StopsWell seizes stop → WasUnderWay script host job.task p.calls → Has p.endings p.calls id aim seizes held →
           AllCovered (with_ending p (quit_end p.tries stop) []).endings
-      stopped-covered id aim true held stop well h = all-more p.endings (endings_of p.jobs (quit_end p.tries stop) [] p) (seized-covered p.endings p.calls id aim held h)
-      stopped-covered id aim false held (ends.Read n) well h = absurd well
-      stopped-covered id aim false held (ends.Wrote n) well h = absurd well
-      stopped-covered id aim false held (ends.Recovered n closed lost) well h = absurd well
-      stopped-covered id aim false held (ends.Part n made cause) well h = left-covered p job jobs first id aim false held (job_ends.Part n made cause) [] tt h
-      stopped-covered id aim false held (ends.Refused cause) well h = left-covered p job jobs first id aim false held (job_ends.Gave p.tries causes.Quit) [] tt h
-      stopped-covered id aim false held ends.Mended well h = left-covered p job jobs first id aim false held (job_ends.Gave p.tries causes.Quit) [] tt h
+      stopped-covered id aim true held stop well under h = all-more p.endings (endings_of p.jobs (quit_end p.tries stop) [] p) (seized-covered p.endings p.calls id aim held h)
+      stopped-covered id aim false held (ends.Read n) well under h = absurd well
+      stopped-covered id aim false held (ends.Wrote n) well under h = absurd well
+      stopped-covered id aim false held (ends.Recovered n closed lost) well under h = absurd well
+      stopped-covered id aim false held (ends.Part n made cause) well under h = left-covered p job jobs first id aim false held (job_ends.Part n made cause) [] tt h
+      stopped-covered id aim false held (ends.Refused cause) well under h = left-covered p job jobs first id aim false held (job_ends.Gave p.tries causes.Quit) [] (tt, under) h
+      stopped-covered id aim false held ends.Mended well under h = left-covered p job jobs first id aim false held (job_ends.Gave p.tries causes.Quit) [] (tt, under) h
 
     -- steps that are left
-    pub left-safe : (p : Progress) → Sound p → (js : List Job) → p.jobs ≡ js → (steps : Steps Finish) → draws steps ≡ false → TriesWork js p.endings p.calls p.seen steps → Safe (steps_left script host p steps)
-    left-safe p s [] same steps none f = absurd f
-    left-safe p s (job ∷ jobs) same (Asks e t c k) none f = go (stops p)
+    pub left-safe : (p : Progress) → Sound p → (js : List Job) → p.jobs ≡ js → (steps : Steps Finish) → draws steps ≡ false → IsLed script host js p.calls p.seen steps → TriesWork js p.endings p.calls p.seen steps → Safe (steps_left script host p steps)
+    left-safe p s [] same steps none led f = absurd f
+    left-safe p s (job ∷ jobs) same (Asks e t c k) none led f = go (stops p)
       where
         go : (stopped : Bool) → Safe (asks_on p (Asks e t c k) t stopped)
         go true =
             let n = next-sound p (quit_end p.tries t) [] s in
             record {
               sound = record { tasks = n.tasks; notes_low = n.notes_low; readers_low = n.readers_low };
-              work = stopped-covered p job jobs same s f.id (f.leaving).aim (f.leaving).seizes f.held t (f.leaving).leaves.1 f.has;
+              work = stopped-covered p job jobs same s f.id (f.leaving).aim (f.leaving).seizes f.held t (f.leaving).leaves.1 (under-way script host job jobs p.calls p.seen e t c k led) f.has;
             }
         go false = record {
           sound = record { tasks = s.tasks; notes_low = s.notes_low; readers_low = s.readers_low };
           work = subst (λ (xs : List Job). TriesWork xs p.endings p.calls p.seen (Asks e t c k)) (sym same) f;
         }
-    left-safe p s (job ∷ jobs) same (Draws k) none f = absurd (let bad : true ≡ false = none in cc)
-    left-safe p s (job ∷ jobs) same (Ends f) none h =
+    left-safe p s (job ∷ jobs) same (Draws k) none led f = absurd (let bad : true ≡ false = none in cc)
+    left-safe p s (job ∷ jobs) same (Ends f) none led h =
         attempt-safe p job jobs same s h.id (h.leaving).aim (h.leaving).seizes h.held h.has f.contents f.ended (h.leaving).leaves
 
     -- before its first job
@@ -564,10 +576,10 @@ module _ (script : Script) (is : IsScript script) (host : HostNo) where
     told-low seen later more at row x P Q f g (inr n) = let h = g n in omega (arith, h, more)
 
     tells-safe : (p : Progress) (call : Call) (js : List Job) (steps : Steps Finish) → p.jobs ≡ js → next_errand steps ≡ Some (errand_of call) → fits call.ask.what call.answer.reply ≡ true →
-        Moves call.bay call.ask.what call.answer.reply → Sound N R S p → TriesWork N R S js p.endings p.calls p.seen steps →
+        Moves call.bay call.ask.what call.answer.reply → Sound N R S p → IsLed script host js p.calls p.seen steps → TriesWork N R S js p.endings p.calls p.seen steps →
         Safe N' R' S' (work_told script host (call_counted p call) call.answer.reply (Trying steps))
-    tells-safe p call [] steps same asked fit m s w = absurd w
-    tells-safe p call (job ∷ jobs) steps same asked fit m s w =
+    tells-safe p call [] steps same asked fit m s led w = absurd w
+    tells-safe p call (job ∷ jobs) steps same asked fit m s led w =
         let before : Standing Finish = record { seen = p.seen; steps = steps } in
         let now : Standing Finish = told host before call.answer.reply in
         let more : p.seen.0 ≤ now.seen.0 = (seen-covers host before (call ∷ []) now (asked, refl)).kept in
@@ -582,6 +594,7 @@ module _ (script : Script) (is : IsScript script) (host : HostNo) where
               (λ k. new-low l.seizes l.aim w.id p.seen call.bay call.ask.what call.answer.reply w.low t.asked at row x (inr k)) (m.readers at row x n);
         })
         (job ∷ jobs) same now.steps (settled-drawn host (sees p.seen call.answer.reply) (behind steps call.answer.reply))
+        (led-on script host (job ∷ jobs) p.calls p.seen steps call asked fit led)
         (record {
           id = w.id;
           low = let low = w.low in omega (arith, low, more);
@@ -617,19 +630,19 @@ module _ (script : Script) (is : IsScript script) (host : HostNo) where
         be-from bay what r (λ at row x n. subst (λ (w : Request). NewNote bay w r at row x) same n) (λ at row x n. subst (λ (w : Request). NewReader script.mode bay w r at row x) same n) m
 
     pub work-safe : (p : Progress) (call : Call) (work : Work) → work_errand work ≡ Some (errand_of call) → fits call.ask.what call.answer.reply ≡ true →
-        Moves call.bay call.ask.what call.answer.reply → Sound N R S p → SafeWork N R S p.jobs p.endings p.calls p.seen work →
+        Moves call.bay call.ask.what call.answer.reply → Sound N R S p → IsWorkLed script host p.jobs p.calls p.seen work → SafeWork N R S p.jobs p.endings p.calls p.seen work →
         Safe N' R' S' (work_told script host (call_counted p call) call.answer.reply work)
-    work-safe p call (Trying steps) asked fit m s w = tells-safe p call p.jobs steps refl asked fit m s w
-    work-safe p call (Losing bay) asked fit m s w =
+    work-safe p call (Trying steps) asked fit m s led w = tells-safe p call p.jobs steps refl asked fit m s led w
+    work-safe p call (Losing bay) asked fit m s led w =
         let same : record { bay = bay; request = Lose } ≡ errand_of call = cc in
         let b = lose-be call.bay call.ask.what call.answer.reply (ap (λ (e : Errand). e.request) (sym same)) m in
         let t = sound-be b p s in
         ended-safe N' R' S' (record (call_counted p call) { gone = Some (record { bay = bay; fitted = false }) }) job_ends.Lost []
         (record { tasks = t.tasks; notes_low = t.notes_low; readers_low = t.readers_low }) (all-covers b p.endings w)
-    work-safe p call (Fitting bay) asked fit m s w =
+    work-safe p call (Fitting bay) asked fit m s led w =
         let same : record { bay = bay; request = Fit } ≡ errand_of call = cc in
         let b = fit-be call.bay call.ask.what call.answer.reply (ap (λ (e : Errand). e.request) (sym same)) m in
         let t = sound-be b p s in
         ended-safe N' R' S' (record (call_counted p call) { gone = Some (record { bay = bay; fitted = true }) }) job_ends.Fitted []
         (record { tasks = t.tasks; notes_low = t.notes_low; readers_low = t.readers_low }) (all-covers b p.endings w)
-    work-safe p call Over asked fit m s w = absurd (cc)
+    work-safe p call Over asked fit m s led w = absurd (cc)

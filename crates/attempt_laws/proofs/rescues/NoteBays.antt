@@ -26,7 +26,6 @@ use Rattle.script_text.specs.Script.{Script, jobs_of}
 use Rattle.script_text.specs.Ranges.{IsScript}
 use Rattle.histories.specs.Calls.{Happened, id_of}
 use Rattle.histories.specs.Leftovers.{HasId, IsSeizure}
-use Rattle.histories.specs.Leftovers as earlier_leftovers
 use Rattle.histories.specs.Progress.{Ending, Work, Trying, Losing, Fitting, Over}
 use Rattle.histories.specs.History.{IsHistory, IsNext, progress_at, if_taken, endings_at}
 use Rattle.histories.specs.RowStates.{slot_at}
@@ -39,19 +38,21 @@ use Rattle.histories.proofs.steps.SameNumbers.{same-host}
 use Rattle.attempt_laws.specs.Leftovers.{MayLeave, HasLeft, IsSeizedAt, IsFailedAt, MayKeep, MayHold, MayRead, RefusedLeaveNothing}
 use Rattle.attempt_laws.specs.Rescues.{calls_by}
 use Rattle.attempt_laws.proofs.leftovers.LeftLeaves.{on, Holds, claimed-new, Gives, after-holds}
-use Rattle.attempt_laws.proofs.leftovers.LeftBays.{fitted, NoteFrom, note-from, ReaderFrom, reader-from, refused-leave}
+use Rattle.attempt_laws.proofs.leftovers.LeftHosts as left
+use Rattle.attempt_laws.proofs.leftovers.LeftBays.{fitted, NoteFrom, note-from, ReaderFrom, reader-from, MayStand, refused-leave}
+use Rattle.attempt_laws.proofs.leftovers.UnderWay.{hands-led}
 use Rattle.attempt_laws.proofs.rescues.RescueTrees.{held_of, IsOwnAsk}
 use Rattle.attempt_laws.proofs.rescues.RescueBays.{same-place, freed, there-noted, unput}
 use Rattle.attempt_laws.proofs.rescues.NoteTrees.{SeizedHere, FailedHere, IsTold, held-told, slot-same}
 use Rattle.attempt_laws.proofs.rescues.NoteHosts.{has, with_id, IsRec, rec-with, same-id, has-own, rescue, IsOwn, Settled, Works, Safe, start-safe, work-safe}
 
--- the earlier of these endings may leave too
-left-map : (id : Number) (es : List Ending) → earlier_leftovers.HasLeft id es → HasLeft id es
-left-map id [] h = h
-left-map id (e ∷ es) (inr h) = inr (left-map id es h)
-left-map id (e ∷ es) (inl h) = inl (h.0, by e.ended h.1)
+-- those of attempts that are no recoveries may leave too
+left-map : (script : Script) (host : HostNo) (id : Number) (es : List Ending) → left.HasLeft script host id es → HasLeft script host id es
+left-map script host id [] h = h
+left-map script host id (e ∷ es) (inr h) = inr (left-map script host id es h)
+left-map script host id (e ∷ es) (inl h) = inl (h.0, by e.ended h.1)
   where
-    by : (ended : JobEnd) → earlier_leftovers.MayLeave ended → MayLeave ended
+    by : (ended : JobEnd) → left.MayLeave script host e.job.task e.calls ended → MayLeave script host e.job.task e.calls ended
     by (job_ends.Part n made cause) m = m
     by (job_ends.Gave tries cause) m = m
     by (job_ends.Recovered n closed lost) m = absurd m
@@ -117,7 +118,7 @@ module _ (script : Script) (is : IsScript script) where
       by : (b : Bool) → (call.ask.host.0 == host.0) ≡ b → Safe script is host (calls_by host earlier) (progress_at script host earlier) →
           Safe script is host (if b then call ∷ calls_by host earlier else calls_by host earlier) (if_taken script host (progress_at script host earlier) call b)
       by true own s =
-          work-safe script is host (calls_by host earlier) call (progress_at script host earlier) (progress_at script host earlier).work (own-errand script is earlier call h.1 host own) (fitted script is earlier call h.1) s.sound s.work
+          work-safe script is host (calls_by host earlier) call (progress_at script host earlier) (progress_at script host earlier).work (own-errand script is earlier call h.1 host own) (fitted script is earlier call h.1) s.sound (hands-led script host earlier is h.0) s.work
       by false own s = s
 
   -- a note's slot is held by the calls with its id, and a reader's was shared by one
@@ -228,7 +229,7 @@ module _ (script : Script) (is : IsScript script) where
   -- a recovery is in hand, or may leave, or is settled
   module _ (history : List Call) (h : IsHistory script history) (host : HostNo) (x : Number) (rec : IsRec x (calls_by host history)) where
     abbrev Is : Type 0
-    Is = HasId x (progress_at script host history).calls ⊎ (HasLeft x (endings_at script history host) ⊎ Settled script is host x (mine host x history) (endings_at script history host))
+    Is = HasId x (progress_at script host history).calls ⊎ (HasLeft script host x (endings_at script history host) ⊎ Settled script is host x (mine host x history) (endings_at script history host))
 
     all-id : (id : Number) (cs : List Call) → AllByRecursion (λ (c : Call). id_of c.ask.what ≡ Some id) cs → IsRec id cs → HasId id cs
     all-id id [] all r = absurd r
@@ -238,11 +239,11 @@ module _ (script : Script) (is : IsScript script) where
     where_it_is = by (progress_at script host history).jobs (progress_at script host history).endings (progress_at script host history).calls (progress_at script host history).seen (progress_at script host history).work (safe-at history h host).work
       where
         by : (jobs : List Job) (endings : List Ending) (cs : List Call) (seen : Number) (work : Work) → Works script is host (calls_by host history) jobs endings cs seen work →
-            HasId x cs ⊎ (HasLeft x endings ⊎ Settled script is host x (mine host x history) endings)
+            HasId x cs ⊎ (HasLeft script host x endings ⊎ Settled script is host x (mine host x history) endings)
         by [] endings cs seen (Trying steps) w = absurd w
         by (job ∷ jobs) endings cs seen (Trying steps) w = go (x.0 == w.id.0) refl
           where
-            go : (b : Bool) → (x.0 == w.id.0) ≡ b → HasId x cs ⊎ (HasLeft x endings ⊎ Settled script is host x (mine host x history) endings)
+            go : (b : Bool) → (x.0 == w.id.0) ≡ b → HasId x cs ⊎ (HasLeft script host x endings ⊎ Settled script is host x (mine host x history) endings)
             go true e =
                 let same : x ≡ w.id = same-id x w.id e in
                 inl (subst (λ (y : Number). HasId y cs) (sym same) (all-id w.id cs w.ids (subst (λ (l : List Call). IsRec w.id l) w.same (rec-with w.id (calls_by host history) (subst (λ (y : Number). IsRec y (calls_by host history)) same rec)))))
@@ -271,13 +272,13 @@ module _ (script : Script) (is : IsScript script) where
     keeps (hd ∷ hs) (inl e) told kept = keeps-one hd.slot (slot-same (rescue script is host x there) hd.slot (on at row) e) hd refl told.0 kept.0
     keeps (hd ∷ hs) (inr i) told kept = keeps hs i told.1 kept.1
 
-  note-may : (history : List Call) → IsHistory script history → (at : BayNo) (row : RowNo) → row.0 < script.rows → (note : Note) → (slot_at script history at row).note ≡ Some note → earlier_leftovers.MayHold script history note.host note.id →
+  note-may : (history : List Call) → IsHistory script history → (at : BayNo) (row : RowNo) → row.0 < script.rows → (note : Note) → (slot_at script history at row).note ≡ Some note → MayStand script history note.host note.id →
       MayHold script history note.host at row note.id
   note-may history h at row low note f (inl m) = inl m
-  note-may history h at row low note f (inr (inl m)) = inr (inl (left-map note.id (endings_at script history note.host) m))
+  note-may history h at row low note f (inr (inl m)) = inr (inl (left-map script note.host note.id (endings_at script history note.host) m))
   note-may history h at row low note f (inr (inr s)) = by (where_it_is history h note.host note.id (rec-of note.host note.id history s))
     where
-      by : HasId note.id (progress_at script note.host history).calls ⊎ (HasLeft note.id (endings_at script history note.host) ⊎ Settled script is note.host note.id (mine note.host note.id history) (endings_at script history note.host)) →
+      by : HasId note.id (progress_at script note.host history).calls ⊎ (HasLeft script note.host note.id (endings_at script history note.host) ⊎ Settled script is note.host note.id (mine note.host note.id history) (endings_at script history note.host)) →
           MayHold script history note.host at row note.id
       by (inl m) = inl m
       by (inr (inl m)) = inr (inl m)
@@ -293,12 +294,12 @@ module _ (script : Script) (is : IsScript script) where
   no-shares host x row (c ∷ cs) own (inl s) = subst (λ (w : Request). IsOwnAsk (rescue script is host x row) c.bay w) s.2 (own.0).0
   no-shares host x row (c ∷ cs) own (inr h) = no-shares host x row cs own.1 h
 
-  reader-may : (history : List Call) → IsHistory script history → (at : BayNo) (row : RowNo) → row.0 < script.rows → (x : Reader) → IsIn x (slot_at script history at row).readers → earlier_leftovers.MayHold script history x.host x.id → MayRead script history x.host x.id
+  reader-may : (history : List Call) → IsHistory script history → (at : BayNo) (row : RowNo) → row.0 < script.rows → (x : Reader) → IsIn x (slot_at script history at row).readers → MayStand script history x.host x.id → MayRead script history x.host x.id
   reader-may history h at row low x i (inl m) = inl m
-  reader-may history h at row low x i (inr (inl m)) = inr (left-map x.id (endings_at script history x.host) m)
+  reader-may history h at row low x i (inr (inl m)) = inr (left-map script x.host x.id (endings_at script history x.host) m)
   reader-may history h at row low x i (inr (inr s)) = by (where_it_is history h x.host x.id (rec-of x.host x.id history s))
     where
-      by : HasId x.id (progress_at script x.host history).calls ⊎ (HasLeft x.id (endings_at script history x.host) ⊎ Settled script is x.host x.id (mine x.host x.id history) (endings_at script history x.host)) → MayRead script history x.host x.id
+      by : HasId x.id (progress_at script x.host history).calls ⊎ (HasLeft script x.host x.id (endings_at script history x.host) ⊎ Settled script is x.host x.id (mine x.host x.id history) (endings_at script history x.host)) → MayRead script history x.host x.id
       by (inl m) = inl m
       by (inr (inl m)) = inr m
       by (inr (inr t)) = absurd (no-shares x.host x.id t.row (mine x.host x.id history) t.own (shared-at history h at row low x i))

@@ -41,7 +41,8 @@ use Rattle.histories.specs.Operator.{is_gone}
 use Rattle.histories.specs.Calls.{Happened, id_of}
 use Rattle.histories.specs.Leftovers.{HasId}
 use Rattle.histories.specs.Progress.{Ending, Work, Trying, Losing, Fitting, Over, Progress, work_errand, endings_of, with_ending, next_job, attempt, try_with, one_more, try_task, parts_end, try_parts, lose_job, fit_job, rebuild_job, start_task, start_jobs, stops, go_on, job_ended, task_of, try_again, once_more, is_spent, attempt_refused, next_row, row_mended, attempt_ended, quit_end, asks_on, steps_left, work_told, call_counted}
-use Rattle.attempt_laws.specs.Leftovers.{MayLeave, HasLeft, IsClosed, HasClosed}
+use Rattle.attempt_laws.specs.Leftovers.{WasUnderWay, MayLeave, HasLeft, IsClosed, HasClosed}
+use Rattle.attempt_laws.proofs.leftovers.UnderWay.{IsLed, IsWorkLed, led-on, under-way}
 use Rattle.attempt_laws.proofs.leftovers.LeftLeaves.{draw-more, settled-more}
 use Rattle.attempt_laws.proofs.rescues.RescueTrees.{IsUnclosed, held_of, IsOwnAsk, RescueEnd, Rescues, recoveries-rescue, settled-rescues, asks-rescue, behind-rescues}
 use Rattle.attempt_laws.proofs.rescues.NoteTrees.{IsOtherAsk, Others, settled-others, asks-other, behind-others, read-others, write-others, mend-others}
@@ -102,14 +103,14 @@ ids-same x id [] all h = absurd h
 ids-same x id (call ∷ calls) all (inl e) = let same : Some x ≡ Some id = sym e ∙ all.0 in cc
 ids-same x id (call ∷ calls) all (inr h) = ids-same x id calls all.1 h
 
-left-more : (x : Number) (es fs : List Ending) → HasLeft x es → HasLeft x (es ++ fs)
-left-more x [] fs h = absurd h
-left-more x (e ∷ es) fs (inl h) = inl h
-left-more x (e ∷ es) fs (inr h) = inr (left-more x es fs h)
+left-more : (script : Script) (host : HostNo) (x : Number) (es fs : List Ending) → HasLeft script host x es → HasLeft script host x (es ++ fs)
+left-more script host x [] fs h = absurd h
+left-more script host x (e ∷ es) fs (inl h) = inl h
+left-more script host x (e ∷ es) fs (inr h) = inr (left-more script host x es fs h)
 
-left-last : (x : Number) (es fs : List Ending) → HasLeft x fs → HasLeft x (es ++ fs)
-left-last x [] fs h = h
-left-last x (e ∷ es) fs h = inr (left-last x es fs h)
+left-last : (script : Script) (host : HostNo) (x : Number) (es fs : List Ending) → HasLeft script host x fs → HasLeft script host x (es ++ fs)
+left-last script host x [] fs h = h
+left-last script host x (e ∷ es) fs h = inr (left-last script host x es fs h)
 
 closed-split : (x : Number) (es : List Ending) (js : List Job) (e : JobEnd) (read : List Content) (p : Progress) → HasClosed x (es ++ endings_of js e read p) → HasClosed x es ⊎ (HasId x p.calls × IsClosed e)
 closed-split x [] [] e read p h = inl h
@@ -142,7 +143,7 @@ module _ (script : Script) (is : IsScript script) (host : HostNo) where
     pub closed : HasClosed x endings → held_of script.mode calls ≡ []
 
   abbrev pub Done : List Ending → List Call → Number → Type 0
-  Done endings hc x = IsRec x hc → HasLeft x endings ⊎ Settled x (with_id x hc) endings
+  Done endings hc x = IsRec x hc → HasLeft script host x endings ⊎ Settled x (with_id x hc) endings
 
   abbrev pub AllDone : List Ending → List Call → Type 0
   AllDone endings hc = (x : Number) → Done endings hc x
@@ -204,13 +205,13 @@ module _ (script : Script) (is : IsScript script) (host : HostNo) where
   own-begins (tasks.Rebuild bay) id = λ h. h
 
   -- where it stops
-  stop-leaves : (tries : ℕ) (t : Ended) → IsUnclosed t → MayLeave (quit_end tries t)
-  stop-leaves tries (ends.Read n) u = u
-  stop-leaves tries (ends.Wrote n) u = u
-  stop-leaves tries (ends.Part n made cause) u = tt
-  stop-leaves tries (ends.Recovered n closed lost) u = u
-  stop-leaves tries (ends.Refused cause) u = tt
-  stop-leaves tries ends.Mended u = tt
+  stop-leaves : (task : Task) (calls : List Call) → WasUnderWay script host task calls → (tries : ℕ) (t : Ended) → IsUnclosed t → MayLeave script host task calls (quit_end tries t)
+  stop-leaves task calls under tries (ends.Read n) u = absurd u
+  stop-leaves task calls under tries (ends.Wrote n) u = absurd u
+  stop-leaves task calls under tries (ends.Part n made cause) u = tt
+  stop-leaves task calls under tries (ends.Recovered n closed lost) u = (u, under)
+  stop-leaves task calls under tries (ends.Refused cause) u = (tt, under)
+  stop-leaves task calls under tries ends.Mended u = (tt, under)
 
   -- the host has made these calls
   module _ (hc : List Call) where
@@ -247,8 +248,8 @@ module _ (script : Script) (is : IsScript script) (host : HostNo) where
     done-more : (x : Number) (es fs : List Ending) → (HasClosed x (es ++ fs) → HasClosed x es) → Done es hc x → Done (es ++ fs) hc x
     done-more x es fs back d = λ rec. by (d rec)
       where
-        by : HasLeft x es ⊎ Settled x (with_id x hc) es → HasLeft x (es ++ fs) ⊎ Settled x (with_id x hc) (es ++ fs)
-        by (inl l) = inl (left-more x es fs l)
+        by : HasLeft script host x es ⊎ Settled x (with_id x hc) es → HasLeft script host x (es ++ fs) ⊎ Settled x (with_id x hc) (es ++ fs)
+        by (inl l) = inl (left-more script host x es fs l)
         by (inr s) = inr (record { row = s.row; own = s.own; kept = s.kept; closed = λ c. s.closed (back c) })
 
     all-more : (p : Progress) (e : JobEnd) (read : List Content) → (IsClosed e → ⊥) → AllDone p.endings hc → AllDone (with_ending p e read).endings hc
@@ -444,24 +445,25 @@ module _ (script : Script) (is : IsScript script) (host : HostNo) where
             go (c ∷ cs) (inl h) = inl (ap (λ (w : Request). id_of w) h.3)
             go (c ∷ cs) (inr h) = inr (go cs h)
 
-        stopped-done : (e : JobEnd) → (IsRec id hc → MayLeave e) → AllDone (with_ending p e []).endings hc
+        stopped-done : (e : JobEnd) → (IsRec id hc → MayLeave script host job.task p.calls e) → AllDone (with_ending p e []).endings hc
         stopped-done e leave =
             all-own (with_ending p e []).endings
-            (λ rec. inl (left-last id p.endings (endings_of p.jobs e [] p) (subst (λ (js : List Job). HasLeft id (endings_of js e [] p)) (sym first) (inl (rec-id rec, leave rec)))))
+            (λ rec. inl (left-last script host id p.endings (endings_of p.jobs e [] p) (subst (λ (js : List Job). HasLeft script host id (endings_of js e [] p)) (sym first) (inl (rec-id rec, leave rec)))))
             (others-more e [])
 
-        stop-leave : (task : Task) (x : Errand) (t : Ended) (c : _) (k : Reply → Steps Finish) → Own task id p.calls → Tree task id p.calls (Asks x t c k) → IsRec id hc → MayLeave (quit_end p.tries t)
-        stop-leave (tasks.Recover row) x t c k mine tree rec = stop-leaves p.tries t tree.1
-        stop-leave (tasks.Read object begin count) x t c k mine tree rec = absurd (no-rec (tasks.Read object begin count) mine rec)
-        stop-leave (tasks.Write object begin from count) x t c k mine tree rec = absurd (no-rec (tasks.Write object begin from count) mine rec)
-        stop-leave (tasks.Lose bay) x t c k mine tree rec = absurd tree
-        stop-leave (tasks.Fit bay) x t c k mine tree rec = absurd tree
-        stop-leave (tasks.Rebuild bay) x t c k mine tree rec = absurd (no-rec (tasks.Rebuild bay) mine rec)
+        stop-leave : WasUnderWay script host job.task p.calls → (task : Task) (x : Errand) (t : Ended) (c : _) (k : Reply → Steps Finish) → Own task id p.calls → Tree task id p.calls (Asks x t c k) → IsRec id hc →
+            MayLeave script host job.task p.calls (quit_end p.tries t)
+        stop-leave under (tasks.Recover row) x t c k mine tree rec = stop-leaves job.task p.calls under p.tries t tree.1
+        stop-leave under (tasks.Read object begin count) x t c k mine tree rec = absurd (no-rec (tasks.Read object begin count) mine rec)
+        stop-leave under (tasks.Write object begin from count) x t c k mine tree rec = absurd (no-rec (tasks.Write object begin from count) mine rec)
+        stop-leave under (tasks.Lose bay) x t c k mine tree rec = absurd tree
+        stop-leave under (tasks.Fit bay) x t c k mine tree rec = absurd tree
+        stop-leave under (tasks.Rebuild bay) x t c k mine tree rec = absurd (no-rec (tasks.Rebuild bay) mine rec)
 
     -- steps that are left
-    left-safe : (p : Progress) → Sound p → (js : List Job) → p.jobs ≡ js → (steps : Steps Finish) → draws steps ≡ false → Tries js p.endings p.calls p.seen steps → Safe (steps_left script host p steps)
-    left-safe p s [] first steps none h = absurd h
-    left-safe p s (job ∷ jobs) first (Asks e t c k) none h = go (stops p)
+    left-safe : (p : Progress) → Sound p → (js : List Job) → p.jobs ≡ js → (steps : Steps Finish) → draws steps ≡ false → IsLed script host js p.calls p.seen steps → Tries js p.endings p.calls p.seen steps → Safe (steps_left script host p steps)
+    left-safe p s [] first steps none led h = absurd h
+    left-safe p s (job ∷ jobs) first (Asks e t c k) none led h = go (stops p)
       where
         go : (stopped : Bool) → Safe (asks_on p (Asks e t c k) t stopped)
         go true =
@@ -471,14 +473,14 @@ module _ (script : Script) (is : IsScript script) (host : HostNo) where
             record {
               sound = record { jobs = n.jobs; low = n.low; closed_low = n.closed_low };
               work = stopped-done p job jobs first s can h.id h.low h.same h.ids h.others h.unclosed h.own end
-                  (stop-leave p job jobs first s can h.id h.low h.same h.ids h.others h.unclosed h.own job.task e t c k h.own h.tree);
+                  (stop-leave p job jobs first s can h.id h.low h.same h.ids h.others h.unclosed h.own (under-way script host job jobs p.calls p.seen e t c k led) job.task e t c k h.own h.tree);
             }
         go false = record {
           sound = record { jobs = s.jobs; low = s.low; closed_low = s.closed_low };
           work = subst (λ (xs : List Job). Tries xs p.endings p.calls p.seen (Asks e t c k)) (sym first) h;
         }
-    left-safe p s (job ∷ jobs) first (Draws k) none h = absurd (let bad : true ≡ false = none in cc)
-    left-safe p s (job ∷ jobs) first (Ends f) none h =
+    left-safe p s (job ∷ jobs) first (Draws k) none led h = absurd (let bad : true ≡ false = none in cc)
+    left-safe p s (job ∷ jobs) first (Ends f) none led h =
         attempt-safe p job jobs first s (tree-can job.task h.id p.calls (Ends f) h.tree) h.id h.low h.same h.ids h.others h.unclosed h.own f.contents f.ended (tree-end job.task h.id p.calls f h.tree)
 
   -- A call of the host
@@ -549,14 +551,14 @@ module _ (script : Script) (is : IsScript script) (host : HostNo) where
     done-other x es e d (inl c) = absurd (let bad : true ≡ false = sym (has-own x) ∙ ap (λ (w : Request). has x (id_of w)) (sym c.3) ∙ e in cc)
     done-other x es e d (inr rec) = by (d rec)
       where
-        by : HasLeft x es ⊎ Settled x (with_id x hc) es → HasLeft x es ⊎ Settled x (with_id x hc') es
+        by : HasLeft script host x es ⊎ Settled x (with_id x hc) es → HasLeft script host x es ⊎ Settled x (with_id x hc') es
         by (inl l) = inl l
         by (inr t) = inr (subst (λ (cs : List Call). Settled x cs es) (sym (with-other x e)) t)
 
-    tells-safe : (p : Progress) (js : List Job) → p.jobs ≡ js → (steps : Steps Finish) → Sound hc p → Tries hc js p.endings p.calls p.seen steps → next_errand steps ≡ Some (errand_of call) → fits call.ask.what call.answer.reply ≡ true →
+    tells-safe : (p : Progress) (js : List Job) → p.jobs ≡ js → (steps : Steps Finish) → Sound hc p → IsLed script host js p.calls p.seen steps → Tries hc js p.endings p.calls p.seen steps → next_errand steps ≡ Some (errand_of call) → fits call.ask.what call.answer.reply ≡ true →
         Safe hc' (work_told script host (call_counted p call) call.answer.reply (Trying steps))
-    tells-safe p [] first steps s h asked fit = absurd h
-    tells-safe p (job ∷ jobs) first steps s h asked fit =
+    tells-safe p [] first steps s led h asked fit = absurd h
+    tells-safe p (job ∷ jobs) first steps s led h asked fit =
         let before : Standing Finish = record { seen = p.seen; steps = steps } in
         let now : Standing Finish = told host before call.answer.reply in
         let more : p.seen.0 ≤ now.seen.0 = (seen-covers host before (call ∷ []) now (asked, refl)).kept in
@@ -569,6 +571,7 @@ module _ (script : Script) (is : IsScript script) (host : HostNo) where
           closed_low = λ x c. let l = s.closed_low x c in omega (arith, l, more);
         })
         (job ∷ jobs) first now.steps (settled-drawn (sees p.seen call.answer.reply) (behind steps call.answer.reply))
+        (led-on script host (job ∷ jobs) p.calls p.seen steps call asked fit led)
         (record {
           id = h.id;
           low = omega (arith, low, more);
@@ -599,13 +602,13 @@ module _ (script : Script) (is : IsScript script) (host : HostNo) where
         low x (inl i) = absurd (let bad : None ≡ Some x = sym none ∙ i in cc)
         low x (inr i) = s.low x i
 
-    pub work-safe : (p : Progress) (work : Work) → work_errand work ≡ Some (errand_of call) → fits call.ask.what call.answer.reply ≡ true → Sound hc p → Works hc p.jobs p.endings p.calls p.seen work →
+    pub work-safe : (p : Progress) (work : Work) → work_errand work ≡ Some (errand_of call) → fits call.ask.what call.answer.reply ≡ true → Sound hc p → IsWorkLed script host p.jobs p.calls p.seen work → Works hc p.jobs p.endings p.calls p.seen work →
         Safe hc' (work_told script host (call_counted p call) call.answer.reply work)
-    work-safe p (Trying steps) asked fit s h = tells-safe p p.jobs refl steps s h asked fit
-    work-safe p (Losing bay) asked fit s h =
+    work-safe p (Trying steps) asked fit s led h = tells-safe p p.jobs refl steps s led h asked fit
+    work-safe p (Losing bay) asked fit s led h =
         let same : record { bay = bay; request = Lose } ≡ errand_of call = cc in
         bare-safe p (record (call_counted p call) { gone = Some (record { bay = bay; fitted = false }) }) job_ends.Lost (ap (λ (x : Errand). id_of x.request) (sym same)) s h refl refl refl (λ c. c)
-    work-safe p (Fitting bay) asked fit s h =
+    work-safe p (Fitting bay) asked fit s led h =
         let same : record { bay = bay; request = Fit } ≡ errand_of call = cc in
         bare-safe p (record (call_counted p call) { gone = Some (record { bay = bay; fitted = true }) }) job_ends.Fitted (ap (λ (x : Errand). id_of x.request) (sym same)) s h refl refl refl (λ c. c)
-    work-safe p Over asked fit s h = absurd (cc)
+    work-safe p Over asked fit s led h = absurd (cc)
