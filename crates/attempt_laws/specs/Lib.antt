@@ -1,4 +1,5 @@
 pub mod Calm
 pub mod Leftovers
 pub mod Lone
+pub mod Plans
 pub mod Rescues

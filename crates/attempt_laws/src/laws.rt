@@ -2,6 +2,7 @@
 ghost use Rattle.attempt_laws.specs.Leftovers.{RefusedLeaveNothing};
 ghost use Rattle.attempt_laws.specs.Lone.{LoneHostsAreDone};
 ghost use Rattle.attempt_laws.specs.Calm.{CalmPlaysClose};
+ghost use Rattle.attempt_laws.specs.Plans.{WritesReadLittle};
 ghost use Rattle.attempt_laws.specs.Rescues.{RecoveriesClose};
 
 /// A refused attempt leaves nothing: after every history of a script each note and each reader that stands in a slot has
@@ -28,4 +29,10 @@ pub fn calm_plays_close()
 /// while its last attempt made its calls, no slot of the row has a note.
 pub fn recoveries_close()
     ensures { RecoveriesClose }
+{}
+
+/// Writes read little: in each row that is whole a write that is not refused is granted as many cells as its plan reads,
+/// those of the parity and the units that it wants, those of the others, or none, and one that is refused no more.
+pub fn writes_read_little()
+    ensures { WritesReadLittle }
 {}

@@ -1,5 +1,5 @@
-//! Laws of attempts over histories: a refused attempt leaves nothing, a host alone is never refused, and calm plays and
-//! recoveries close their rows.
+//! Laws of attempts: a refused attempt leaves nothing, a host alone is never refused, calm plays and recoveries close their
+//! rows, and writes read as few cells as their plans say.
 #![tactic(auto)]
 
 pub mod laws;

@@ -1,0 +1,2 @@
+-- Writes are granted as many cells as their plans read.
+pub mod PlanTrees
