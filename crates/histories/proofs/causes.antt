@@ -3,4 +3,5 @@ pub mod CauseLemmas
 pub mod HostCauses
 pub mod ReadCauses
 pub mod RepairCauses
+pub mod SpentDraws
 pub mod WriteCauses

@@ -27,6 +27,11 @@ abbrev pub Always : (List Call → Type 0) → List Call → Type 0
 Always P [] = P []
 Always P (c ∷ cs) = Always P cs × P (c ∷ cs)
 
+-- the history was so after some call, or at the start
+abbrev pub Sometime : (List Call → Type 0) → List Call → Type 0
+Sometime P [] = P []
+Sometime P (c ∷ cs) = P (c ∷ cs) ⊎ Sometime P cs
+
 -- the row of a request, none of Lose and Fit
 abbrev pub row_of : Request → Option RowNo
 row_of (Share row id want) = Some row

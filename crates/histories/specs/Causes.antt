@@ -1,5 +1,6 @@
 -- What stands behind the cause in a result.
-use Rattle.std.specs.Prelude.{◌≡◌, ◌≢◌, ◌⊎◌, ℕ, ◌≤◌, not, ◌||◌, Bool, true, false, List, [], ◌∷◌, Some, is_some, IsNone}
+use Rattle.std.specs.Prelude.{◌≡◌, ◌≢◌, ◌⊎◌, ℕ, ◌≤◌, not, ◌||◌, Bool, true, false, List, [], ◌∷◌, ◌++◌, Some, is_some, IsNone}
+use Rattle.std.specs.List.{Contains}
 use Rattle.raid_base.specs.declared.numbers.HostNo.{HostNo}
 use Rattle.raid_base.specs.declared.numbers.BayNo.{BayNo}
 use Rattle.raid_base.specs.declared.numbers.RowNo.{RowNo}
@@ -20,10 +21,13 @@ use Rattle.raid_base.specs.declared.messages.Call.{Call}
 use Rattle.raid_base.specs.Numbers.{next_number}
 use Rattle.raid_base.specs.declared.messages.Grant.{Grant}
 use Rattle.raid_base.specs.Replies.{grant_of}
+use Rattle.raid_base.specs.Steps.{Steps, draws, behind}
 use Rattle.stripe_layout.specs.Placement.{parity_bay}
+use Rattle.attempts.specs.Taking.{Finish}
 use Rattle.script_text.specs.Script.{Script}
-use Rattle.histories.specs.Progress.{Ending}
-use Rattle.histories.specs.Calls.{Happened, HappenedAfter, id_of, IsClaim, Answers}
+use Rattle.histories.specs.Progress.{Ending, Progress, Trying}
+use Rattle.histories.specs.History.{progress_at, endings_at}
+use Rattle.histories.specs.Calls.{Happened, HappenedAfter, Sometime, id_of, IsClaim, Answers}
 use Rattle.histories.specs.Torn.{IsMissing}
 
 -- a read or a write under stamps was told a floor that is not below its id
@@ -116,20 +120,42 @@ IsReleaseIn row call = (id : Number) × (n : Number) × (call.ask.what ≡ Relea
 abbrev pub IsPutIn : RowNo → Call → Type 0
 IsPutIn row call = (id : Number) × (n : Number) × (cell : Cell) × (call.ask.what ≡ Put row id n cell) × IsUnnoted call
 
--- the cause stands in the calls of the job's last attempt
-abbrev pub IsCauseIn : Script → HostNo → Ending → Cause → Type 0
-IsCauseIn script host e (causes.Busy holder) = Happened (Answers (replies.Busy holder)) e.calls
-IsCauseIn script host e (causes.Late above) = Happened (Answers (replies.Late above)) e.calls
-IsCauseIn script host e (causes.Young note) = Happened (Answers (replies.Young note)) e.calls
-IsCauseIn script host e (causes.Behind floor) = (script.mode ≡ Order) × IsReadOrWrite e.job.task × Happened (IsFloorFrom floor) e.calls
-IsCauseIn script host e (causes.Fault bay) = Happened (λ call. (call.bay ≡ bay) × Answers replies.Fault call) e.calls
-IsCauseIn script host e (causes.Broken first second) = HappenedAfter (IsLackingAt script e.job.task second) (IsMissingAt first) e.calls × (first ≢ second)
-IsCauseIn script host e (causes.Gone bay) = IsGone script host bay e.job.task e.calls
-IsCauseIn script host e (causes.Changed row) = IsChanged script e.job.task row e.calls
-IsCauseIn script host e (causes.Released row) = (script.mode ≡ Lock) × IsRead e.job.task × Happened (IsReleaseIn row) e.calls
-IsCauseIn script host e (causes.Seized row) = Happened (IsPutIn row) e.calls
-IsCauseIn script host e (causes.Spent seen) = IsNone (next_number host seen)
-IsCauseIn script host e causes.Quit = e.job.quit ≡ Some e.asked
+-- the result came with the newest of these calls, or before the first
+abbrev pub ComesWith : Script → HostNo → Ending → List Call → Type 0
+ComesWith script host e [] = Contains (endings_at script [] host) e
+ComesWith script host e (call ∷ earlier) =
+    (new : List Ending) × (endings_at script (call ∷ earlier) host ≡ endings_at script earlier host ++ new) × Contains new e
+
+-- told the newest of these calls, the attempt in hand drew a number: it had made these requests, the newest first
+abbrev pub DrawsAfter : Script → HostNo → List Call → List Call → Type 0
+DrawsAfter script host [] made = ⊥
+DrawsAfter script host (call ∷ earlier) made =
+    let p : Progress = progress_at script host earlier in
+    (made ≡ call ∷ p.calls) × (steps : Steps Finish) × (p.work ≡ Trying steps) × (draws (behind steps call.answer.reply) ≡ true)
+
+-- then the host drew for the job's last attempt: its id, without which it makes no request, or a number after some of its requests
+abbrev pub IsDraw : Script → HostNo → Ending → List Call → Type 0
+IsDraw script host e now = ((e.calls ≡ []) × ComesWith script host e now) ⊎ Sometime (DrawsAfter script host now) e.calls
+
+-- and there was none above what it had seen then
+abbrev pub IsDrawSpent : Script → HostNo → Ending → Number → List Call → Type 0
+IsDrawSpent script host e seen now =
+    IsDraw script host e now × (seen ≡ (progress_at script host now).seen) × IsNone (next_number host seen)
+
+-- the cause stands in the calls of the job's last attempt, or in one of its draws
+abbrev pub IsCauseIn : Script → List Call → HostNo → Ending → Cause → Type 0
+IsCauseIn script history host e (causes.Busy holder) = Happened (Answers (replies.Busy holder)) e.calls
+IsCauseIn script history host e (causes.Late above) = Happened (Answers (replies.Late above)) e.calls
+IsCauseIn script history host e (causes.Young note) = Happened (Answers (replies.Young note)) e.calls
+IsCauseIn script history host e (causes.Behind floor) = (script.mode ≡ Order) × IsReadOrWrite e.job.task × Happened (IsFloorFrom floor) e.calls
+IsCauseIn script history host e (causes.Fault bay) = Happened (λ call. (call.bay ≡ bay) × Answers replies.Fault call) e.calls
+IsCauseIn script history host e (causes.Broken first second) = HappenedAfter (IsLackingAt script e.job.task second) (IsMissingAt first) e.calls × (first ≢ second)
+IsCauseIn script history host e (causes.Gone bay) = IsGone script host bay e.job.task e.calls
+IsCauseIn script history host e (causes.Changed row) = IsChanged script e.job.task row e.calls
+IsCauseIn script history host e (causes.Released row) = (script.mode ≡ Lock) × IsRead e.job.task × Happened (IsReleaseIn row) e.calls
+IsCauseIn script history host e (causes.Seized row) = Happened (IsPutIn row) e.calls
+IsCauseIn script history host e (causes.Spent seen) = Sometime (IsDrawSpent script host e seen) history
+IsCauseIn script history host e causes.Quit = e.job.quit ≡ Some e.asked
 
 -- a job is given up after all its tries, unless its host stops or numbers are spent
 abbrev pub AreTries : ℕ → ℕ → Cause → Type 0
@@ -137,7 +163,7 @@ AreTries all tries causes.Quit = tries ≤ all
 AreTries all tries (causes.Spent seen) = tries ≤ all
 AreTries all tries _ = tries ≡ all
 
-abbrev pub MeetsCause : Script → HostNo → Ending → JobEnd → Type 0
-MeetsCause script host e (ends.Part n made cause) = IsCauseIn script host e cause
-MeetsCause script host e (ends.Gave tries cause) = IsCauseIn script host e cause × (tries ≡ e.tries) × AreTries script.tries tries cause
-MeetsCause script host e _ = Unit {0}
+abbrev pub MeetsCause : Script → List Call → HostNo → Ending → JobEnd → Type 0
+MeetsCause script history host e (ends.Part n made cause) = IsCauseIn script history host e cause
+MeetsCause script history host e (ends.Gave tries cause) = IsCauseIn script history host e cause × (tries ≡ e.tries) × AreTries script.tries tries cause
+MeetsCause script history host e _ = Unit {0}

@@ -30,4 +30,4 @@ RequestsAreBounded = (script : Script) (history : List Call) → IsPlayable scri
 -- Along every history of a script each result that gives a cause has it.
 abbrev pub CausesAreMet : Type 0
 CausesAreMet = (script : Script) (history : List Call) → IsScript script → IsHistory script history → (host : HostNo) →
-    AllByRecursion (λ (e : Ending). MeetsCause script host e e.ended) (endings_at script history host)
+    AllByRecursion (λ (e : Ending). MeetsCause script history host e e.ended) (endings_at script history host)

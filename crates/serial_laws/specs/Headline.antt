@@ -57,7 +57,7 @@ KeepsParity script history = Always (AreRowsSound script) history
 
 -- Causes: each result that gives a cause has it
 abbrev pub HasCauses : Script → List Call → Type 0
-HasCauses script history = EachEnding script history (λ host e. MeetsCause script host e e.ended)
+HasCauses script history = EachEnding script history (λ host e. MeetsCause script history host e e.ended)
 
 -- The headline: the play is that of the history, its results are serial, the parity is kept, lost blocks are named rightly, and each
 -- cause that is given has come. The report that is printed is that of the same history

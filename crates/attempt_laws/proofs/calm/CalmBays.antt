@@ -268,12 +268,12 @@ module _ (script : Script) (is : IsScript script) (calm : IsCalm script) where
   all-calm (call ∷ earlier) h works = next-calm earlier call h.0 h.1 works.0 (all-calm earlier h.0 works.1)
 
   -- Nothing is left
-  no-left : (host : HostNo) (x : Number) (es : List Ending) → AllByRecursion EndsWhole es → AllByRecursion (λ (e : Ending). MeetsCause script host e e.ended) es → HasLeft script host x es → ⊥
-  no-left host x [] w m h = h
-  no-left host x (e ∷ es) w m (inr h) = no-left host x es w.1 m.1 h
-  no-left host x (e ∷ es) w m (inl h) = by e.ended h.1 (w.0).1 m.0
+  no-left : (history : List Call) (host : HostNo) (x : Number) (es : List Ending) → AllByRecursion EndsWhole es → AllByRecursion (λ (e : Ending). MeetsCause script history host e e.ended) es → HasLeft script host x es → ⊥
+  no-left history host x [] w m h = h
+  no-left history host x (e ∷ es) w m (inr h) = no-left history host x es w.1 m.1 h
+  no-left history host x (e ∷ es) w m (inl h) = by e.ended h.1 (w.0).1 m.0
     where
-      quit : (tries : ℕ) (cause : Cause) → IsQuit cause → MeetsCause script host e (job_ends.Gave tries cause) → ⊥
+      quit : (tries : ℕ) (cause : Cause) → IsQuit cause → MeetsCause script history host e (job_ends.Gave tries cause) → ⊥
       quit tries causes.Quit q c = let bad : None ≡ Some e.asked = sym (w.0).0 ∙ c.0 in cc
       quit tries (causes.Busy n) q c = q
       quit tries (causes.Late n) q c = q
@@ -287,7 +287,7 @@ module _ (script : Script) (is : IsScript script) (calm : IsCalm script) where
       quit tries (causes.Seized n) q c = q
       quit tries (causes.Spent n) q c = q
 
-      by : (ended : JobEnd) → MayLeave script host e.job.task e.calls ended → IsWhole ended → MeetsCause script host e ended → ⊥
+      by : (ended : JobEnd) → MayLeave script host e.job.task e.calls ended → IsWhole ended → MeetsCause script history host e ended → ⊥
       by (job_ends.Part n made cause) leave whole c = whole
       by (job_ends.Gave tries cause) leave whole c = quit tries cause leave.0 c
       by (job_ends.Read n) leave whole c = leave
@@ -335,7 +335,7 @@ module _ (script : Script) (is : IsScript script) (calm : IsCalm script) where
     uncovered host x left = by (few-or-idle 0 host script.hosts is.hosts)
       where
         by : (host.0 < 16) ⊎ (jobs_of script host ≡ []) → ⊥
-        by (inl few) = no-left host x (endings_at script history host) (((all-calm history h works).hosts host few).sound).whole (causes_are_met script history is h host) left
+        by (inl few) = no-left history host x (endings_at script history host) (((all-calm history h works).hosts host few).sound).whole (causes_are_met script history is h host) left
         by (inr none) = subst (HasLeft script host x) (idle-history script host history none).endings left
 
     none-left : (at : BayNo) (row : RowNo) → row.0 < script.rows → (note : Note) → (slots history at row).note ≡ Some note → ⊥

@@ -23,7 +23,7 @@ use Rattle.raid_base.specs.declared.jobs.JobEnd.{JobEnd}
 use Rattle.raid_base.specs.declared.jobs.RowPart.{RowPart}
 use Rattle.raid_base.specs.declared.jobs.PartsFault.{PartsFault}
 use Rattle.raid_base.specs.Numbers.{draw}
-use Rattle.raid_base.specs.Steps.{Steps, Asks, Draws, Ends, settled, next_errand}
+use Rattle.raid_base.specs.Steps.{Steps, Asks, Draws, Ends, settled, next_errand, draws}
 use Rattle.stripe_layout.specs.Placement.{units_in}
 use Rattle.virtual_objects.specs.Objects.{rows_of, parts_found}
 use Rattle.virtual_objects.specs.RowParts.{IsPart, ArePartsOf}
@@ -54,6 +54,11 @@ first-share : (a : Access) (part : RowPart) (parts : List RowPart) (done : Rows)
 first-share a part parts done host seen [] e some = absurd (omega arith)
 first-share a part parts done host seen (unit ∷ units) e some = rw e refl
 
+first-asks : (a : Access) (part : RowPart) (parts : List RowPart) (done : Rows) (units : List ℕ) → units_in a.n part.mask ≡ units → 1 ≤ length units →
+    draws (read_rows a (part ∷ parts) done) ≡ false
+first-asks a part parts done [] e some = absurd (omega arith)
+first-asks a part parts done (unit ∷ units) e some = rw e refl
+
 module _ (script : Script) (is : IsScript script) (host : HostNo) where
   read-awake : (id : Number) (parts : List RowPart) → 1 ≤ length parts → AllByRecursion (IsPart script.n) parts →
       IsSome (next_errand (settled host id (read_of script id (Ok parts))).steps)
@@ -67,13 +72,24 @@ module _ (script : Script) (is : IsScript script) (host : HostNo) where
   write-awake id [] blocks some = absurd (omega arith)
   write-awake id (part ∷ parts) blocks some = refl
 
-  parts-some : (object : Name) (first count : ℕ) (parts : List RowPart) → 1 ≤ count → (found : Option (List RowNo)) → rows_of script.objects object ≡ found →
+  pub parts-some : (object : Name) (first count : ℕ) (parts : List RowPart) → 1 ≤ count → (found : Option (List RowNo)) → rows_of script.objects object ≡ found →
       parts_found (script.n - 1) first count found ≡ Ok parts → (1 ≤ length parts) × AllByRecursion (IsPart script.n) parts
   parts-some object first count parts some None none ok = absurd (cc)
   parts-some object first count parts some (Some rows) found ok =
       let are : ArePartsOf script.n script.objects object first count parts =
       are_parts script.n first count script.objects object rows parts (let h = is.devices_least in omega arith) some found is.objects.rows_apart ok in
       (are.sound.some, recursion_from_All (IsPart script.n) parts are.sound.each)
+
+  -- an attempt that has parts does not begin with a draw
+  pub read-asks : (id : Number) (parts : List RowPart) → 1 ≤ length parts → AllByRecursion (IsPart script.n) parts → draws (read_of script id (Ok parts)) ≡ false
+  read-asks id [] some each = absurd (omega arith)
+  read-asks id (part ∷ parts) some each =
+      let here = each.0 in
+      first-asks (access script id (part ∷ parts) []) part parts no_rows (units_in script.n part.mask) refl (omega (arith, here.some, here.counted))
+
+  pub write-asks : (id : Number) (parts : List RowPart) (blocks : List (List ℕ)) → 1 ≤ length parts → draws (write_of script id blocks (Ok parts)) ≡ false
+  write-asks id [] blocks some = absurd (omega arith)
+  write-asks id (part ∷ parts) blocks some = refl
 
   read-starts : (id : Number) (object : Name) (first count : ℕ) → 1 ≤ count → (r : Result (List RowPart) PartsFault) → parts_of script object first count ≡ r → IsOk r →
       IsSome (next_errand (settled host id (read_of script id r)).steps)

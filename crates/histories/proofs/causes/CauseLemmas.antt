@@ -36,7 +36,7 @@ use Rattle.attempts.specs.Taking.{Finish, Row, Taken, is_behind, behind_from, br
 use Rattle.attempts.specs.Releases.{releasing, end_as, released_steps, refused_steps}
 use Rattle.script_text.specs.Script.{Script}
 use Rattle.histories.specs.Progress.{Ending}
-use Rattle.histories.specs.Calls.{Happened, HappenedAfter, id_of, Answers}
+use Rattle.histories.specs.Calls.{Happened, HappenedAfter, Sometime, id_of, Answers}
 use Rattle.histories.specs.Causes.{IsFloorFrom, IsReadOrWrite, IsRead, IsBehind, IsMissingAt, IsLackingAt, IsGone, IsHeldBadly, IsFound, IsGranted, IsLacking, HasOwnCause, IsChange, IsChanged, IsReleaseIn, IsPutIn, IsCauseIn}
 use Rattle.histories.specs.Torn.{IsMissing}
 use Rattle.histories.specs.Completeness.{missing_in}
@@ -75,34 +75,41 @@ has-changed script task row [] h = h
 has-changed script task row (call ∷ earlier) (inl h) = inl (is-change script task row earlier call h)
 has-changed script task row (call ∷ earlier) (inr h) = inr (has-changed script task row earlier h)
 
--- the cause stands in these calls of an attempt of this task; that the host stops is no cause of an attempt
-abbrev pub Stands : Script → HostNo → Task → List Call → Cause → Type 0
-Stands script host task calls (causes.Busy holder) = Happened (Answers (replies.Busy holder)) calls
-Stands script host task calls (causes.Late above) = Happened (Answers (replies.Late above)) calls
-Stands script host task calls (causes.Young note) = Happened (Answers (replies.Young note)) calls
-Stands script host task calls (causes.Behind floor) = (script.mode ≡ Order) × IsReadOrWrite task × Happened (IsFloorFrom floor) calls
-Stands script host task calls (causes.Fault bay) = Happened (λ call. (call.bay ≡ bay) × Answers replies.Fault call) calls
-Stands script host task calls (causes.Broken first second) = HappenedAfter (IsLackingAt script task second) (IsMissingAt first) calls × (first ≢ second)
-Stands script host task calls (causes.Gone bay) = IsGone script host bay task calls
-Stands script host task calls (causes.Changed row) = HasChanged script task row calls
-Stands script host task calls (causes.Released row) = (script.mode ≡ Lock) × IsRead task × Happened (IsReleaseIn row) calls
-Stands script host task calls (causes.Seized row) = Happened (IsPutIn row) calls
-Stands script host task calls (causes.Spent seen) = IsNone (next_number host seen)
-Stands script host task calls causes.Quit = ⊥
+-- The cause stands in these calls of an attempt of this task; that the host stops is no cause of an attempt.
+-- S says of a number that the host had seen it at a draw after these calls of the attempt, and that there was none above it
+abbrev pub Stands : Script → HostNo → (List Call → Number → Type 0) → Task → List Call → Cause → Type 0
+Stands script host S task calls (causes.Busy holder) = Happened (Answers (replies.Busy holder)) calls
+Stands script host S task calls (causes.Late above) = Happened (Answers (replies.Late above)) calls
+Stands script host S task calls (causes.Young note) = Happened (Answers (replies.Young note)) calls
+Stands script host S task calls (causes.Behind floor) = (script.mode ≡ Order) × IsReadOrWrite task × Happened (IsFloorFrom floor) calls
+Stands script host S task calls (causes.Fault bay) = Happened (λ call. (call.bay ≡ bay) × Answers replies.Fault call) calls
+Stands script host S task calls (causes.Broken first second) = HappenedAfter (IsLackingAt script task second) (IsMissingAt first) calls × (first ≢ second)
+Stands script host S task calls (causes.Gone bay) = IsGone script host bay task calls
+Stands script host S task calls (causes.Changed row) = HasChanged script task row calls
+Stands script host S task calls (causes.Released row) = (script.mode ≡ Lock) × IsRead task × Happened (IsReleaseIn row) calls
+Stands script host S task calls (causes.Seized row) = Happened (IsPutIn row) calls
+Stands script host S task calls (causes.Spent seen) = Sometime (λ made. S made seen) calls
+Stands script host S task calls causes.Quit = ⊥
 
-pub stands-in : (script : Script) (host : HostNo) (e : Ending) (cause : Cause) → Stands script host e.job.task e.calls cause → IsCauseIn script host e cause
-stands-in script host e (causes.Busy holder) s = s
-stands-in script host e (causes.Late above) s = s
-stands-in script host e (causes.Young note) s = s
-stands-in script host e (causes.Behind floor) s = s
-stands-in script host e (causes.Fault bay) s = s
-stands-in script host e (causes.Broken first second) s = s
-stands-in script host e (causes.Gone bay) s = s
-stands-in script host e (causes.Changed row) s = has-changed script e.job.task row e.calls s
-stands-in script host e (causes.Released row) s = s
-stands-in script host e (causes.Seized row) s = s
-stands-in script host e (causes.Spent seen) s = s
-stands-in script host e causes.Quit s = absurd s
+-- where nothing need be known of it
+abbrev pub AnySeen : List Call → Number → Type 0
+AnySeen made seen = Unit {0}
+
+pub stands-in : (script : Script) (history : List Call) (host : HostNo) (S : List Call → Number → Type 0) (e : Ending)
+    → ((seen : Number) → Sometime (λ made. S made seen) e.calls → IsCauseIn script history host e (causes.Spent seen))
+    → (cause : Cause) → Stands script host S e.job.task e.calls cause → IsCauseIn script history host e cause
+stands-in script history host S e spent (causes.Busy holder) s = s
+stands-in script history host S e spent (causes.Late above) s = s
+stands-in script history host S e spent (causes.Young note) s = s
+stands-in script history host S e spent (causes.Behind floor) s = s
+stands-in script history host S e spent (causes.Fault bay) s = s
+stands-in script history host S e spent (causes.Broken first second) s = s
+stands-in script history host S e spent (causes.Gone bay) s = s
+stands-in script history host S e spent (causes.Changed row) s = has-changed script e.job.task row e.calls s
+stands-in script history host S e spent (causes.Released row) s = s
+stands-in script history host S e spent (causes.Seized row) s = s
+stands-in script history host S e spent (causes.Spent seen) s = spent seen s
+stands-in script history host S e spent causes.Quit s = absurd s
 
 -- what happened stays true under one more call
 gone-more : (script : Script) (host : HostNo) (bay : BayNo) (task : Task) (calls : List Call) (call : Call) → IsGone script host bay task calls → IsGone script host bay task (call ∷ calls)
@@ -192,26 +199,26 @@ IsStopCause (ends.Recovered n closed lost) = closed ≡ false
 IsStopCause (ends.Refused cause) = Unit {0}
 IsStopCause ends.Mended = ⊥
 
--- Whatever the calls that answer what is asked, by replies that fit, and whatever the host has seen where it draws: the end
--- is Q of the calls, the newest first, and where the host stops before it the cause is that.
-abbrev pub Caused : {A : Type 0} → HostNo → (List Call → A → Type 0) → List Call → Steps A → Type 0
-Caused host Q calls (Ends a) = Q calls a
-Caused host Q calls (Draws k) = (seen : Number) → Caused host Q calls (k (draw host seen))
-Caused host Q calls (Asks e s c k) = IsStopCause s × ((call : Call) → IsReply e call → Caused host Q (call ∷ calls) (k call.answer.reply))
+-- Whatever the calls that answer what is asked, by replies that fit, and whatever the host has seen where it draws, of which S
+-- holds where no number is left: the end is Q of the calls, the newest first, and where the host stops before it the cause is that.
+abbrev pub Caused : {A : Type 0} → HostNo → (List Call → Number → Type 0) → (List Call → A → Type 0) → List Call → Steps A → Type 0
+Caused host S Q calls (Ends a) = Q calls a
+Caused host S Q calls (Draws k) = (seen : Number) → (IsNone (next_number host seen) → S calls seen) → Caused host S Q calls (k (draw host seen))
+Caused host S Q calls (Asks e s c k) = IsStopCause s × ((call : Call) → IsReply e call → Caused host S Q (call ∷ calls) (k call.answer.reply))
 
 -- Walks
-module _ {A B : Type 0} (host : HostNo) (Q : List Call → B → Type 0) where
+module _ {A B : Type 0} (host : HostNo) (S : List Call → Number → Type 0) (Q : List Call → B → Type 0) where
   pub caused-go : (J : A → Type 0) (calls : List Call) (o : Option A) (g : A → Steps (Walk A)) (s : Steps (Walk A)) (f : Walk A → Steps B)
-      → IfSome o J → ((a : A) → J a → Caused host Q calls (bind (g a) f)) → (o ≡ None → Caused host Q calls (bind s f)) → Caused host Q calls (bind (go_on o g s) f)
+      → IfSome o J → ((a : A) → J a → Caused host S Q calls (bind (g a) f)) → (o ≡ None → Caused host S Q calls (bind s f)) → Caused host S Q calls (bind (go_on o g s) f)
   caused-go J calls (Some a) g s f i on off = on a i
   caused-go J calls None g s f i on off = off refl
 
   pub caused-walk : (P : Errand → Type 0) (I : List Call → A → Type 0) (phase : Phase A) (f : Walk A → Steps B) → ((a : A) → IsStopCause (phase.stop a))
       → ((e : Errand) (calls : List Call) (a : A) (call : Call) → P e → I calls a → IsReply e call → IfSome (phase.step a e call.answer.reply) (I (call ∷ calls)))
-      → ((calls : List Call) (a : A) → I calls a → Caused host Q calls (f (Through a)))
+      → ((calls : List Call) (a : A) → I calls a → Caused host S Q calls (f (Through a)))
       → ((e : Errand) (calls : List Call) (a : A) (call : Call) → P e → I calls a → IsReply e call → phase.step a e call.answer.reply ≡ None
-      → Caused host Q (call ∷ calls) (f (Stopped a e call.answer.reply)))
-      → (es : List Errand) (calls : List Call) (a : A) → AllByRecursion P es → I calls a → Caused host Q calls (bind (run phase es a) f)
+      → Caused host S Q (call ∷ calls) (f (Stopped a e call.answer.reply)))
+      → (es : List Errand) (calls : List Call) (a : A) → AllByRecursion P es → I calls a → Caused host S Q calls (bind (run phase es a) f)
   caused-walk P I phase f stops kept on off [] calls a all i = on calls a i
   caused-walk P I phase f stops kept on off (e ∷ es) calls a all i = (
     stops a,
@@ -223,12 +230,12 @@ module _ {A B : Type 0} (host : HostNo) (Q : List Call → B → Type 0) where
 
   -- of one errand
   pub caused-one : (phase : Phase A) (f : Walk A → Steps B) (e : Errand) (calls : List Call) (a : A) → IsStopCause (phase.stop a)
-      → ((call : Call) → IsReply e call → IfSome (phase.step a e call.answer.reply) (λ b. Caused host Q (call ∷ calls) (f (Through b))))
-      → ((call : Call) → IsReply e call → phase.step a e call.answer.reply ≡ None → Caused host Q (call ∷ calls) (f (Stopped a e call.answer.reply)))
-      → Caused host Q calls (bind (run phase (e ∷ []) a) f)
+      → ((call : Call) → IsReply e call → IfSome (phase.step a e call.answer.reply) (λ b. Caused host S Q (call ∷ calls) (f (Through b))))
+      → ((call : Call) → IsReply e call → phase.step a e call.answer.reply ≡ None → Caused host S Q (call ∷ calls) (f (Stopped a e call.answer.reply)))
+      → Caused host S Q calls (bind (run phase (e ∷ []) a) f)
   caused-one phase f e calls a stop on off = (
     stop,
-    λ call is. caused-go (λ b. Caused host Q (call ∷ calls) (f (Through b))) (call ∷ calls) (phase.step a e call.answer.reply) (λ b. run phase [] b)
+    λ call is. caused-go (λ b. Caused host S Q (call ∷ calls) (f (Through b))) (call ∷ calls) (phase.step a e call.answer.reply) (λ b. run phase [] b)
         (Ends (Stopped a e call.answer.reply)) f (on call is) (λ b ok. ok) (off call is),
   )
 
@@ -245,15 +252,19 @@ pub any-errands : (es : List Errand) → AllByRecursion (λ e. Unit {0}) es
 any-errands [] = tt
 any-errands (e ∷ es) = (tt, any-errands es)
 
+pub sometime-now : (P : List Call → Type 0) (calls : List Call) → P calls → Sometime P calls
+sometime-now P [] p = p
+sometime-now P (call ∷ calls) p = inl p
+
 -- a number is drawn, or there is none
-pub caused-draw : {B : Type 0} (host : HostNo) (Q : List Call → B → Type 0) (calls : List Call) (f : Result Number Spent → Steps B)
-    → ((n : Number) → Caused host Q calls (f (Ok n)))
-    → ((spent : Spent) → IsNone (next_number host spent.seen) → Caused host Q calls (f (Err spent)))
-    → (seen : Number) → Caused host Q calls (f (draw host seen))
-caused-draw host Q calls f on off seen = by (next_number host seen) refl where
-  by : (o : Option Number) → next_number host seen ≡ o → Caused host Q calls (f (ok_or o (record { seen = seen })))
+pub caused-draw : {B : Type 0} (host : HostNo) (S : List Call → Number → Type 0) (Q : List Call → B → Type 0) (calls : List Call) (f : Result Number Spent → Steps B)
+    → ((n : Number) → Caused host S Q calls (f (Ok n)))
+    → ((spent : Spent) → Sometime (λ made. S made spent.seen) calls → Caused host S Q calls (f (Err spent)))
+    → (seen : Number) → (IsNone (next_number host seen) → S calls seen) → Caused host S Q calls (f (draw host seen))
+caused-draw host S Q calls f on off seen known = by (next_number host seen) refl where
+  by : (o : Option Number) → next_number host seen ≡ o → Caused host S Q calls (f (ok_or o (record { seen = seen })))
   by (Some n) e = on n
-  by None e = off (record { seen = seen }) (subst IsNone (sym e) refl)
+  by None e = off (record { seen = seen }) (sometime-now (λ made. S made seen) calls (known (subst IsNone (sym e) refl)))
 
 -- Requests that take a slot
 pub record IsTake (what : Request) : Type 0 where
@@ -309,9 +320,9 @@ unrefused-gap least missing bay floor none = by (is_behind least floor) refl non
   by true e none = cc
   by false e none = (e, none)
 
-module _ (script : Script) (host : HostNo) (task : Task) where
+module _ (script : Script) (host : HostNo) (S : List Call → Number → Type 0) (task : Task) where
   -- a cause stands under more calls
-  pub stands-more : (cause : Cause) (calls : List Call) (call : Call) → Stands script host task calls cause → Stands script host task (call ∷ calls) cause
+  pub stands-more : (cause : Cause) (calls : List Call) (call : Call) → Stands script host S task calls cause → Stands script host S task (call ∷ calls) cause
   stands-more (causes.Busy holder) calls call s = inr s
   stands-more (causes.Late above) calls call s = inr s
   stands-more (causes.Young note) calls call s = inr s
@@ -322,16 +333,16 @@ module _ (script : Script) (host : HostNo) (task : Task) where
   stands-more (causes.Changed row) calls call s = inr s
   stands-more (causes.Released row) calls call s = (s.0, s.1, inr s.2)
   stands-more (causes.Seized row) calls call s = inr s
-  stands-more (causes.Spent seen) calls call s = s
+  stands-more (causes.Spent seen) calls call s = inr s
   stands-more causes.Quit calls call s = s
 
   -- how an attempt ends: a refusal or a part has its cause
   abbrev pub EndStands : List Call → Ended → Type 0
   EndStands calls (ends.Read n) = Unit {0}
   EndStands calls (ends.Wrote n) = Unit {0}
-  EndStands calls (ends.Part n made cause) = Stands script host task calls cause
+  EndStands calls (ends.Part n made cause) = Stands script host S task calls cause
   EndStands calls (ends.Recovered n closed lost) = Unit {0}
-  EndStands calls (ends.Refused cause) = Stands script host task calls cause
+  EndStands calls (ends.Refused cause) = Stands script host S task calls cause
   EndStands calls ends.Mended = Unit {0}
 
   abbrev pub FinishStands : List Call → Finish → Type 0
@@ -339,12 +350,12 @@ module _ (script : Script) (host : HostNo) (task : Task) where
 
   -- what is given back changes no cause
   pub releases-caused : (ended : Ended) → ((calls : List Call) (call : Call) → EndStands calls ended → EndStands (call ∷ calls) ended)
-      → (es : List Errand) (calls : List Call) → EndStands calls ended → Caused host FinishStands calls (released_steps es ended)
+      → (es : List Errand) (calls : List Call) → EndStands calls ended → Caused host S FinishStands calls (released_steps es ended)
   releases-caused ended more es calls s =
-      caused-walk host FinishStands (λ e. Unit {0}) (λ cs u. EndStands cs ended) releasing (end_as ended) (λ u. tt)
+      caused-walk host S FinishStands (λ e. Unit {0}) (λ cs u. EndStands cs ended) releasing (end_as ended) (λ u. tt)
       (λ e cs u call p i is. more cs call i) (λ cs u i. i) (λ e cs u call p i is off. more cs call i) es calls tt (any-errands es) s
 
-  pub refuses : (es : List Errand) (cause : Cause) (calls : List Call) → Stands script host task calls cause → Caused host FinishStands calls (refused_steps es cause)
+  pub refuses : (es : List Errand) (cause : Cause) (calls : List Call) → Stands script host S task calls cause → Caused host S FinishStands calls (refused_steps es cause)
   refuses es cause calls s = releases-caused (ends.Refused cause) (λ cs call i. stands-more cause cs call i) es calls s
 
   -- Refusals. A floor counts for reads and writes under stamps, from the id of the request on
@@ -360,7 +371,7 @@ module _ (script : Script) (host : HostNo) (task : Task) where
   behind-rightly Lock same plain id what of = record { counts = λ least e. cc; covers = λ order plain. absurd (let both : Lock ≡ Order = sym same ∙ order in cc) }
 
   abbrev Refused : List Call → Option Cause → Type 0
-  Refused calls o = IfSome o (Stands script host task calls)
+  Refused calls o = IfSome o (Stands script host S task calls)
 
   module _ (calls : List Call) (e : Errand) (call : Call) (is : IsReply e call) where
     not-behind : (floor : Number) → call.answer.reply ≡ replies.Missing floor → (least : Option Number) → BehindRightly least e.request → is_behind least floor ≡ false
@@ -392,7 +403,7 @@ module _ (script : Script) (host : HostNo) (task : Task) where
         differ eq = let t : (first.0 == e.bay.0) ≡ true = eq-eqb first.0 e.bay.0 (ap (λ (b : BayNo). b.0) eq) in cc
 
     floor-stands : (floor : Number) → call.answer.reply ≡ replies.Missing floor → (least : Option Number) → BehindRightly least e.request → is_behind least floor ≡ true
-        → Stands script host task (call ∷ calls) (causes.Behind floor)
+        → Stands script host S task (call ∷ calls) (causes.Behind floor)
     floor-stands floor same None b h = cc
     floor-stands floor same (Some id) b h =
         let rightly = b.counts id refl in
@@ -433,7 +444,7 @@ module _ (script : Script) (host : HostNo) (task : Task) where
       by replies.Fitted same = tt
 
   -- the cause of a reply that stops
-  pub else-stands : (calls : List Call) (o : Option Cause) (other : Cause) → Refused calls o → (o ≡ None → Stands script host task calls other) → Stands script host task calls (unwrap_or o other)
+  pub else-stands : (calls : List Call) (o : Option Cause) (other : Cause) → Refused calls o → (o ≡ None → Stands script host S task calls other) → Stands script host S task calls (unwrap_or o other)
   else-stands calls None other r s = s refl
   else-stands calls (Some cause) other r s = r
 
@@ -455,9 +466,9 @@ module _ (script : Script) (host : HostNo) (task : Task) where
     only b (inr h) = ap (λ (c : BayNo). Some c) (sym (broken-agrees taken.missing bay b g.2 (m.1 b h)))
 
   module _ (least : Option Number) (f : Walk Taken → Steps Finish)
-      (off : (calls : List Call) (taken : Taken) (e : Errand) (r : Reply) → Stands script host task calls (why least taken e r) → Caused host FinishStands calls (f (Stopped taken e r))) where
+      (off : (calls : List Call) (taken : Taken) (e : Errand) (r : Reply) → Stands script host S task calls (why least taken e r) → Caused host S FinishStands calls (f (Stopped taken e r))) where
     stop-stands : (keep : Option Grant → Row → Row) (calls : List Call) (taken : Taken) (e : Errand) (call : Call) → Takes least e → IsReply e call → MissingTold taken.missing calls
-        → (taking least keep).step taken e call.answer.reply ≡ None → Caused host FinishStands (call ∷ calls) (f (Stopped taken e call.answer.reply))
+        → (taking least keep).step taken e call.answer.reply ≡ None → Caused host S FinishStands (call ∷ calls) (f (Stopped taken e call.answer.reply))
     stop-stands keep calls taken e call t is m stop =
         off (call ∷ calls) taken e call.answer.reply
         (else-stands (call ∷ calls) (refusal least taken.missing e.bay call.answer.reply) causes.Quit (refusal-stands calls e call is least taken.missing t.rightly m)
@@ -466,11 +477,11 @@ module _ (script : Script) (host : HostNo) (task : Task) where
     pub caused-takes : (keep : Option Grant → Row → Row) (K : List Call → Taken → Type 0)
         → ((calls : List Call) (taken : Taken) (call : Call) (bay : BayNo) (o : Option Grant) → GrantOrGap taken.missing bay call.answer.reply o
         → K calls taken → K (call ∷ calls) (with_grant keep taken bay o))
-        → ((calls : List Call) (taken : Taken) → MissingTold taken.missing calls → K calls taken → Caused host FinishStands calls (f (Through taken)))
+        → ((calls : List Call) (taken : Taken) → MissingTold taken.missing calls → K calls taken → Caused host S FinishStands calls (f (Through taken)))
         → (es : List Errand) (calls : List Call) (taken : Taken) → AllByRecursion (Takes least) es → MissingTold taken.missing calls → K calls taken
-        → Caused host FinishStands calls (bind (run (taking least keep) es taken) f)
+        → Caused host S FinishStands calls (bind (run (taking least keep) es taken) f)
     caused-takes keep K more on es calls taken all m k =
-        caused-walk host FinishStands (Takes least) (λ cs t. MissingTold t.missing cs × K cs t) (taking least keep) f (λ t. tt) kept
+        caused-walk host S FinishStands (Takes least) (λ cs t. MissingTold t.missing cs × K cs t) (taking least keep) f (λ t. tt) kept
         (λ cs t i. on cs t i.0 i.1) (λ e cs t call p i is stop. stop-stands keep cs t e call p is i.0 stop) es calls taken all (m, k) where
           given : (e : Errand) (cs : List Call) (t : Taken) (call : Call) → call.bay ≡ e.bay → MissingTold t.missing cs → K cs t → (o : Option (Option Grant)) → IfSome o (GrantOrGap t.missing e.bay call.answer.reply)
               → IfSome (option_map (with_grant keep t e.bay) o) (λ t. MissingTold t.missing (call ∷ cs) × K (call ∷ cs) t)
@@ -492,10 +503,10 @@ module _ (script : Script) (host : HostNo) (task : Task) where
     pub caused-parity : (row : RowNo) (id : Number) (how : How) (mask : ℕ) (want : Bool) (calls : List Call) (taken : Taken)
         → BehindRightly least (Claim row id how mask want) → MissingTold taken.missing calls
         → ((call : Call) (o : Option Grant) → MissingTold (with_grant with_parity taken (parity_bay script.n row) o).missing (call ∷ calls) → ParityTold script.n row o (call ∷ calls)
-        → Caused host FinishStands (call ∷ calls) (f (Through (with_grant with_parity taken (parity_bay script.n row) o))))
-        → Caused host FinishStands calls (bind (run (taking least with_parity) (claim id row how mask want (parity_bay script.n row) ∷ []) taken) f)
+        → Caused host S FinishStands (call ∷ calls) (f (Through (with_grant with_parity taken (parity_bay script.n row) o))))
+        → Caused host S FinishStands calls (bind (run (taking least with_parity) (claim id row how mask want (parity_bay script.n row) ∷ []) taken) f)
     caused-parity row id how mask want calls taken b m on =
-        caused-one host FinishStands (taking least with_parity) f e calls taken tt
+        caused-one host S FinishStands (taking least with_parity) f e calls taken tt
         (λ call is. given call is (unless (refusal least taken.missing e.bay call.answer.reply) (grant_of call.answer.reply))
         (take-told e.request (claim-takes row id how mask want) least taken.missing e.bay call.answer.reply is.fit))
         (λ call is stop. stop-stands with_parity calls taken e call (record { take = claim-takes row id how mask want; rightly = b }) is m stop) where
@@ -503,7 +514,7 @@ module _ (script : Script) (host : HostNo) (task : Task) where
           e = claim id row how mask want (parity_bay script.n row)
 
           given : (call : Call) → IsReply e call → (o : Option (Option Grant)) → IfSome o (GrantOrGap taken.missing e.bay call.answer.reply)
-              → IfSome (option_map (with_grant with_parity taken e.bay) o) (λ t. Caused host FinishStands (call ∷ calls) (f (Through t)))
+              → IfSome (option_map (with_grant with_parity taken e.bay) o) (λ t. Caused host S FinishStands (call ∷ calls) (f (Through t)))
           given call is None g = tt
           given call is (Some o) g =
               on call o (with-missing with_parity taken (parity_bay script.n row) calls call (bay-asked is) o g m) (parity-told row id how mask want calls call is taken.missing o g)

@@ -1,5 +1,5 @@
 -- Each result of a host that gives a cause has it.
-use Rattle.std.proofs.Common.{◌≡◌, refl, sym, ap, subst, ◌∙◌, ℕ, ◌+◌, ◌≤◌, ◌==◌, ◌||◌, Bool, true, false, List, [], ◌∷◌, drop, Option, Some, None, Result, Ok, Err, ok_or, arith}
+use Rattle.std.proofs.Common.{◌≡◌, ◌⊎◌, inl, inr, refl, sym, ap, subst, ◌∙◌, ℕ, ◌+◌, ◌≤◌, ◌==◌, ◌||◌, Bool, true, false, List, [], ◌∷◌, ◌++◌, drop, Option, Some, None, Result, Ok, Err, arith, append_assoc}
 use Rattle.std.specs.Prelude.{IsNone}
 use Rattle.std.specs.List.{AllByRecursion}
 use Rattle.std.proofs.lemmas.Bool.Decides.{nat_tests}
@@ -26,20 +26,25 @@ use Rattle.raid_base.specs.declared.jobs.JobEnd.TheVariants as job_ends
 use Rattle.raid_base.specs.Fits.{fits}
 use Rattle.raid_base.specs.Numbers.{next_number, draw, seen_drawn, sees}
 use Rattle.raid_base.specs.Replies.{is_fault}
-use Rattle.raid_base.specs.Steps.{Steps, Asks, Draws, Ends, settled, told, behind, next_errand, errand_of}
+use Rattle.raid_base.specs.Steps.{Steps, Asks, Draws, Ends, settled, told, behind, draws, next_errand, errand_of}
 use Rattle.slot_rules.proofs.RuleLaws.{replies_fit_lem}
+use Rattle.virtual_objects.specs.Objects.{rows_of}
 use Rattle.attempts.specs.Taking.{Finish}
 use Rattle.script_text.specs.Script.{Script, jobs_of, parts_of, blocks_of}
 use Rattle.script_text.specs.Ranges.{IsScript}
 use Rattle.histories.specs.declared.operator.Gone.{Gone}
 use Rattle.histories.specs.Operator.{is_gone}
-use Rattle.histories.specs.Progress.{Ending, Work, Trying, Losing, Fitting, Over, Progress, Sent, asks, sent_by, work_errand, endings_of, with_ending, next_job, attempt, read_of, write_of, try_with, one_more, try_task, parts_end, try_parts, lose_job, fit_job, rebuild_job, start_task, start_jobs, stops_at, job_stops, stops, go_on, job_ended, task_of, try_again, once_more, is_spent, attempt_refused, next_row, row_mended, attempt_ended, quit_end, asks_on, steps_left, work_told, call_counted}
-use Rattle.histories.specs.History.{if_taken, progress_at, bay_at, IsNext, IsHistory}
-use Rattle.histories.specs.Causes.{AreTries, MeetsCause}
+use Rattle.histories.specs.Progress.{Ending, Work, Trying, Losing, Fitting, Over, Progress, Sent, asks, sent_by, work_errand, endings_of, with_ending, next_job, attempt, read_of, write_of, try_with, one_more, try_task, parts_end, try_parts, lose_job, fit_job, rebuild_job, start_task, start_jobs, stops_at, job_stops, stops, go_on, job_ended, task_of, try_again, once_more, is_spent, attempt_refused, next_row, row_mended, attempt_ended, quit_end, asks_on, steps_left, work_told, call_counted, takes}
+use Rattle.histories.specs.History.{if_taken, progress_at, bay_at, endings_at, IsNext, IsHistory}
+use Rattle.histories.specs.Calls.{Sometime}
+use Rattle.histories.specs.Bounds.{IsAimed}
+use Rattle.histories.specs.Causes.{DrawsAfter, IsDrawSpent, IsCauseIn, AreTries, MeetsCause}
 use Rattle.histories.specs.HostLaws.{CausesAreMet}
-use Rattle.histories.proofs.bounds.BoundsTakes.{before_start}
+use Rattle.histories.proofs.bounds.BoundsTakes.{before_start, script-aims}
+use Rattle.histories.proofs.bounds.Awake.{parts-some, read-asks, write-asks}
 use Rattle.attempts.proofs.RoomLemmas.{all-append}
-use Rattle.histories.proofs.causes.CauseLemmas.{Stands, stands-in, IsReply, IsStopCause, Caused, FinishStands}
+use Rattle.histories.proofs.causes.CauseLemmas.{Stands, stands-in, IsReply, IsStopCause, Caused, FinishStands, sometime-now}
+use Rattle.histories.proofs.causes.SpentDraws.{settled-spent, spent_in, spent_of, told-seen, IsIdDraw, IsIdDrawn, ids-are-drawn}
 use Rattle.histories.proofs.causes.RepairCauses.{mends_caused, recoveries_caused}
 use Rattle.histories.proofs.causes.ReadCauses.{reads_caused}
 use Rattle.histories.proofs.causes.WriteCauses.{writes_caused}
@@ -47,26 +52,42 @@ use Rattle.histories.proofs.causes.WriteCauses.{writes_caused}
 same-host : (a b : HostNo) → (a.0 == b.0) ≡ true → a ≡ b
 same-host a b e = let same : a.0 ≡ b.0 = grind (arith, nat_tests) in ap (λ (k : ℕ). record { 0 = k }) same
 
--- what is left once numbers were drawn, or a reply was told
-pub settled-caused : (host : HostNo) (Q : List Call → Finish → Type 0) (calls : List Call) (seen : Number) (s : Steps Finish) → Caused host Q calls s → Caused host Q calls (settled host seen s).steps
-settled-caused host Q calls seen (Asks e t c k) h = h
-settled-caused host Q calls seen (Draws k) h = settled-caused host Q calls (seen_drawn seen (draw host seen)) (k (draw host seen)) (h seen)
-settled-caused host Q calls seen (Ends f) h = h
+-- what is left once numbers were drawn, of which S holds where none is left, or a reply was told
+pub settled-caused : (host : HostNo) (S : List Call → Number → Type 0) (Q : List Call → Finish → Type 0) (calls : List Call) (seen : Number) (s : Steps Finish)
+    → (draws s ≡ true → (n : Number) → IsNone (next_number host n) → n ≡ (settled host seen s).seen → S calls n)
+    → Caused host S Q calls s → Caused host S Q calls (settled host seen s).steps
+settled-caused host S Q calls seen (Asks e t c k) known h = h
+settled-caused host S Q calls seen (Draws k) known h =
+    settled-caused host S Q calls (seen_drawn seen (draw host seen)) (k (draw host seen)) (λ d. known refl)
+    (h seen (λ none. known refl seen none (settled-spent host seen (Draws k) none)))
+settled-caused host S Q calls seen (Ends f) known h = h
 
-pub behind-caused : (host : HostNo) (Q : List Call → Finish → Type 0) (calls : List Call) (call : Call) (s : Steps Finish) → Caused host Q calls s
-    → ((e : Errand) → next_errand s ≡ Some e → IsReply e call) → next_errand s ≡ Some (errand_of call) → Caused host Q (call ∷ calls) (behind s call.answer.reply)
-behind-caused host Q calls call (Asks e t c k) h is asked = h.1 call (is e refl)
-behind-caused host Q calls call (Draws k) h is asked = cc
-behind-caused host Q calls call (Ends f) h is asked = cc
+pub behind-caused : (host : HostNo) (S : List Call → Number → Type 0) (Q : List Call → Finish → Type 0) (calls : List Call) (call : Call) (s : Steps Finish) → Caused host S Q calls s
+    → ((e : Errand) → next_errand s ≡ Some e → IsReply e call) → next_errand s ≡ Some (errand_of call) → Caused host S Q (call ∷ calls) (behind s call.answer.reply)
+behind-caused host S Q calls call (Asks e t c k) h is asked = h.1 call (is e refl)
+behind-caused host S Q calls call (Draws k) h is asked = cc
+behind-caused host S Q calls call (Ends f) h is asked = cc
 
--- where there is no next number
-none-drawn : (host : HostNo) (seen : Number) (spent : Spent) → draw host seen ≡ Err spent → IsNone (next_number host spent.seen)
-none-drawn host seen spent e = by (next_number host seen) refl e where
-  by : (o : Option Number) → next_number host seen ≡ o → ok_or o (record { seen = seen }) ≡ Err spent → IsNone (next_number host spent.seen)
-  by (Some n) same e = cc
-  by None same e =
-      let s : seen ≡ spent.seen = cc in
-      subst (λ (n : Number). IsNone (next_number host n)) s (subst IsNone (sym same) refl)
+-- calls after which something was so once
+sometime-in : (P : List Call → Type 0) (later now : List Call) → P now → Sometime P (later ++ now)
+sometime-in P [] now p = sometime-now P now p
+sometime-in P (call ∷ later) now p = inr (sometime-in P later now p)
+
+sometime-map : (P Q : List Call → Type 0) → ((calls : List Call) → P calls → Q calls) → (calls : List Call) → Sometime P calls → Sometime Q calls
+sometime-map P Q f [] p = f [] p
+sometime-map P Q f (call ∷ calls) (inl p) = inl (f (call ∷ calls) p)
+sometime-map P Q f (call ∷ calls) (inr p) = inr (sometime-map P Q f calls p)
+
+sometime-swap : (P : List Call → List Call → Type 0) (xs ys : List Call) → Sometime (λ x. Sometime (λ y. P x y) ys) xs → Sometime (λ y. Sometime (λ x. P x y) xs) ys
+sometime-swap P [] ys h = h
+sometime-swap P (call ∷ xs) ys (inl h) = sometime-map (λ y. P (call ∷ xs) y) (λ y. Sometime (λ x. P x y) (call ∷ xs)) (λ y p. inl p) ys h
+sometime-swap P (call ∷ xs) ys (inr h) =
+    sometime-map (λ y. Sometime (λ x. P x y) xs) (λ y. Sometime (λ x. P x y) (call ∷ xs)) (λ y p. inr p) ys (sometime-swap P xs ys h)
+
+sometime-both : (P : List Call → Type 0) (X : Type 0) (calls : List Call) → Sometime (λ made. P made × X) calls → Sometime P calls × X
+sometime-both P X [] h = h
+sometime-both P X (call ∷ calls) (inl h) = (inl h.0, h.1)
+sometime-both P X (call ∷ calls) (inr h) = let both = sometime-both P X calls h in (inr both.0, both.1)
 
 -- the host stops in the job in hand
 quits : (quit : Option ℕ) (asked : ℕ) → stops_at quit asked ≡ true → quit ≡ Some asked
@@ -88,7 +109,17 @@ all-tries all tries (causes.Changed row) few e = grind (arith, nat_tests)
 all-tries all tries (causes.Released row) few e = grind (arith, nat_tests)
 all-tries all tries (causes.Seized row) few e = grind (arith, nat_tests)
 
-module _ (script : Script) (is : IsScript script) (host : HostNo) where
+module _ (script : Script) (is : IsScript script) (host : HostNo) (history : List Call) where
+  -- the host had seen this number by then, and there was none above it; so it was when it drew after these calls of an attempt
+  abbrev pub WasSpent : Number → List Call → Type 0
+  WasSpent seen now = (seen ≡ (progress_at script host now).seen) × IsNone (next_number host seen)
+
+  abbrev pub IsDrawnAt : List Call → Number → List Call → Type 0
+  IsDrawnAt made seen now = DrawsAfter script host now made × WasSpent seen now
+
+  abbrev pub AtDraw : List Call → Number → Type 0
+  AtDraw made seen = Sometime (IsDrawnAt made seen) history
+
   -- Attempts. What may be tried
   abbrev pub IsTriable : Task → Type 0
   IsTriable (tasks.Read object first count) = (parts : List RowPart) × (parts_of script object first count ≡ Ok parts)
@@ -98,30 +129,61 @@ module _ (script : Script) (is : IsScript script) (host : HostNo) where
   IsTriable (tasks.Lose bay) = ⊥
   IsTriable (tasks.Fit bay) = ⊥
 
-  attempt-caused : (id : Number) (row : ℕ) (task : Task) → IsTriable task → Caused host (FinishStands script host task) [] (attempt script host id row task)
+  attempt-caused : (id : Number) (row : ℕ) (task : Task) → IsTriable task → Caused host AtDraw (FinishStands script host AtDraw task) [] (attempt script host id row task)
   attempt-caused id row (tasks.Read object first count) may =
-      subst (λ (r : Result (List RowPart) PartsFault). Caused host (FinishStands script host (tasks.Read object first count)) [] (read_of script id r)) (sym may.1)
-      (reads_caused script host (tasks.Read object first count) tt id may.0 [])
+      subst (λ (r : Result (List RowPart) PartsFault). Caused host AtDraw (FinishStands script host AtDraw (tasks.Read object first count)) [] (read_of script id r)) (sym may.1)
+      (reads_caused script host AtDraw (tasks.Read object first count) tt id may.0 [])
   attempt-caused id row (tasks.Write object first from count) may =
-      subst (λ (r : Result (List RowPart) PartsFault). Caused host (FinishStands script host (tasks.Write object first from count)) [] (write_of script id (blocks_of script from count) r)) (sym may.1)
-      (writes_caused script host (tasks.Write object first from count) tt id may.0 (blocks_of script from count))
-  attempt-caused id row (tasks.Recover at) may = recoveries_caused script host id at
-  attempt-caused id row (tasks.Rebuild bay) may = mends_caused script host bay id (record { 0 = row })
+      subst (λ (r : Result (List RowPart) PartsFault). Caused host AtDraw (FinishStands script host AtDraw (tasks.Write object first from count)) [] (write_of script id (blocks_of script from count) r)) (sym may.1)
+      (writes_caused script host AtDraw (tasks.Write object first from count) tt id may.0 (blocks_of script from count))
+  attempt-caused id row (tasks.Recover at) may = recoveries_caused script host AtDraw id at
+  attempt-caused id row (tasks.Rebuild bay) may = mends_caused script host AtDraw bay id (record { 0 = row })
   attempt-caused id row (tasks.Lose bay) may = absurd may
   attempt-caused id row (tasks.Fit bay) may = absurd may
 
-  -- Where a host stands
+  attempt-asks : (id : Number) (row : ℕ) (task : Task) → IsAimed script task → IsTriable task → draws (attempt script host id row task) ≡ false
+  attempt-asks id row (tasks.Read object first count) aim may =
+      let are = parts-some script is host object first count may.0 aim (rows_of script.objects object) refl may.1 in
+      subst (λ (r : Result (List RowPart) PartsFault). draws (read_of script id r) ≡ false) (sym may.1) (read-asks script is host id may.0 are.0 are.1)
+  attempt-asks id row (tasks.Write object first from count) aim may =
+      let are = parts-some script is host object first count may.0 aim (rows_of script.objects object) refl may.1 in
+      subst (λ (r : Result (List RowPart) PartsFault). draws (write_of script id (blocks_of script from count) r) ≡ false) (sym may.1)
+      (write-asks script is host id may.0 (blocks_of script from count) are.0)
+  attempt-asks id row (tasks.Recover at) aim may = refl
+  attempt-asks id row (tasks.Rebuild bay) aim may = refl
+  attempt-asks id row (tasks.Lose bay) aim may = absurd may
+  attempt-asks id row (tasks.Fit bay) aim may = absurd may
+
+  -- Where a host stands. A cause stands in the calls of the last attempt, or the host stops, or there was no id for the attempt
+  abbrev IsFounded : Ending → Cause → Type 0
+  IsFounded e cause =
+      Stands script host AtDraw e.job.task e.calls cause
+      ⊎ (((cause ≡ causes.Quit) × (e.job.quit ≡ Some e.asked)) ⊎ ((seen : Number) × (cause ≡ causes.Spent seen) × (e.calls ≡ [])))
+
+  abbrev IsMet : Ending → JobEnd → Type 0
+  IsMet e (job_ends.Part n made cause) = IsFounded e cause
+  IsMet e (job_ends.Gave tries cause) = IsFounded e cause × (tries ≡ e.tries) × AreTries script.tries tries cause
+  IsMet e _ = Unit {0}
+
   abbrev Met : Ending → Type 0
-  Met e = MeetsCause script host e e.ended
+  Met e = IsMet e e.ended
+
+  abbrev AreAimed : List Job → Type 0
+  AreAimed jobs = AllByRecursion (λ (job : Job). IsAimed script job.task) jobs
+
+  rest-aims : (jobs : List Job) → AreAimed jobs → AreAimed (drop 1 jobs)
+  rest-aims [] aims = tt
+  rest-aims (job ∷ jobs) aims = aims.1
 
   pub record Sound (p : Progress) : Type 0 where
     pub met : AllByRecursion Met p.endings
+    pub aims : AreAimed p.jobs
 
   -- the attempt in hand
   pub record Tries (made : ℕ) (calls : List Call) (task : Task) (steps : Steps Finish) : Type 0 where
     pub may : IsTriable task
     pub few : made ≤ script.tries
-    pub caused : Caused host (FinishStands script host task) calls steps
+    pub caused : Caused host AtDraw (FinishStands script host AtDraw task) calls steps
 
   abbrev pub TriesJob : ℕ → List Call → List Job → Steps Finish → Type 0
   TriesJob made calls [] steps = ⊥
@@ -140,18 +202,18 @@ module _ (script : Script) (is : IsScript script) (host : HostNo) where
   -- the job in hand may have this result
   abbrev Due : Progress → List Job → JobEnd → List Content → Type 0
   Due p [] ended read = Unit {0}
-  Due p (job ∷ jobs) ended read = MeetsCause script host (record { job = job; ended = ended; contents = read; asked = p.asked; tries = p.tries; calls = p.calls }) ended
+  Due p (job ∷ jobs) ended read = IsMet (record { job = job; ended = ended; contents = read; asked = p.asked; tries = p.tries; calls = p.calls }) ended
 
   one-ended : (p : Progress) (e : JobEnd) (read : List Content) (js : List Job) → Due p js e read → AllByRecursion Met (endings_of js e read p)
   one-ended p e read [] due = tt
   one-ended p e read (job ∷ jobs) due = (due, tt)
 
   next-sound : (p : Progress) (e : JobEnd) (read : List Content) → Sound p → Due p p.jobs e read → Sound (next_job (with_ending p e read))
-  next-sound p e read s due = record { met = all-append Met p.endings (endings_of p.jobs e read p) s.met (one-ended p e read p.jobs due) }
+  next-sound p e read s due = record { met = all-append Met p.endings (endings_of p.jobs e read p) s.met (one-ended p e read p.jobs due); aims = rest-aims p.jobs s.aims }
 
   -- a result without a cause
   abbrev IsPlain : JobEnd → Type 0
-  IsPlain e = (x : Ending) → MeetsCause script host x e
+  IsPlain e = (x : Ending) → IsMet x e
 
   due-plain : (p : Progress) (js : List Job) (e : JobEnd) (read : List Content) → IsPlain e → Due p js e read
   due-plain p [] e read plain = tt
@@ -169,15 +231,21 @@ module _ (script : Script) (is : IsScript script) (host : HostNo) where
     skips-plain e plain = skips p e first s (due-plain p p.jobs e [] plain)
 
     module _ (may : IsTriable job.task) where
+      aim : IsAimed script job.task
+      aim = (subst AreAimed first s.aims).0
+
+      no-draw : (id : Number) → draws (attempt script host id p.row job.task) ≡ true → ⊥
+      no-draw id d = let bad : true ≡ false = sym d ∙ attempt-asks id p.row job.task aim may in cc
+
       tries-with : (d : Result Number Spent) → draw host p.seen ≡ d → StandsWell (try_with script host job.task rest (one_more p) d)
       tries-with (Ok id) e = record {
-        sound = record { met = s.met };
+        sound = record { met = s.met; aims = s.aims };
         work = subst (λ (js : List Job). TriesJob (p.tries + 1) [] js (settled host id (attempt script host id p.row job.task)).steps) (sym first)
-            (record { may = may; few = few; caused = settled-caused host (FinishStands script host job.task) [] id (attempt script host id p.row job.task) (attempt-caused id p.row job.task may) });
+            (record { may = may; few = few; caused = settled-caused host AtDraw (FinishStands script host AtDraw job.task) [] id (attempt script host id p.row job.task) (λ d. absurd (no-draw id d)) (attempt-caused id p.row job.task may) });
       }
       tries-with (Err spent) e =
-          skips (one_more p) (job_ends.Gave (p.tries + 1) (causes.Spent spent.seen)) first (record { met = s.met })
-          (subst (λ (js : List Job). Due (one_more p) js (job_ends.Gave (p.tries + 1) (causes.Spent spent.seen)) []) (sym first) (none-drawn host p.seen spent e, refl, few))
+          skips (one_more p) (job_ends.Gave (p.tries + 1) (causes.Spent spent.seen)) first (record { met = s.met; aims = s.aims })
+          (subst (λ (js : List Job). Due (one_more p) js (job_ends.Gave (p.tries + 1) (causes.Spent spent.seen)) []) (sym first) (inr (inr (spent.seen, refl, refl)), refl, few))
 
       pub tries : StandsWell (try_task script host job.task rest p)
       tries = tries-with (draw host p.seen) refl
@@ -196,7 +264,7 @@ module _ (script : Script) (is : IsScript script) (host : HostNo) where
     parts-begin task same (Err fault) may = skips-plain (parts_end fault) (parts-plain fault)
 
     asks-one : (work : Work) → ((made : ℕ) (calls : List Call) (js : List Job) → Works made calls js work) → StandsWell (record p { work = work })
-    asks-one work any = record { sound = record { met = s.met }; work = any p.tries p.calls p.jobs }
+    asks-one work any = record { sound = record { met = s.met; aims = s.aims }; work = any p.tries p.calls p.jobs }
 
     loses : (bay : BayNo) (gone : Option Gone) → StandsWell (lose_job rest p bay gone)
     loses bay None = asks-one (Losing bay) (λ made calls js. tt)
@@ -222,13 +290,13 @@ module _ (script : Script) (is : IsScript script) (host : HostNo) where
     starts = starts-as job.task refl
 
   pub start-stands : (jobs : List Job) → GoesOn jobs (start_jobs script host jobs)
-  start-stands [] p none fresh s = record { sound = record { met = s.met }; work = tt }
+  start-stands [] p none fresh s = record { sound = record { met = s.met; aims = s.aims }; work = tt }
   start-stands (job ∷ jobs) p first fresh s =
       starts (start_jobs script host jobs) job jobs (start-stands jobs) p first s (let least = is.tries_least in omega (arith, fresh))
 
   -- A job ends
   on-stands : (q : Progress) (stopped : Bool) → Sound (next_job q) → StandsWell (go_on script host q stopped)
-  on-stands q true s = record { sound = record { met = s.met }; work = tt }
+  on-stands q true s = record { sound = record { met = s.met; aims = s.aims }; work = tt }
   on-stands q false s = start-stands (drop 1 q.jobs) (next_job q) refl refl s
 
   ended-stands : (p : Progress) (e : JobEnd) (read : List Content) → Sound p → Due p p.jobs e read → StandsWell (job_ended script host p e read)
@@ -239,7 +307,7 @@ module _ (script : Script) (is : IsScript script) (host : HostNo) where
 
   -- An attempt of the job in hand ends
   module _ (p : Progress) (job : Job) (jobs : List Job) (first : p.jobs ≡ job ∷ jobs) (s : Sound p) (may : IsTriable job.task) (few : p.tries ≤ script.tries) where
-    due-of : (e : JobEnd) (read : List Content) → MeetsCause script host (record { job = job; ended = e; contents = read; asked = p.asked; tries = p.tries; calls = p.calls }) e → Due p p.jobs e read
+    due-of : (e : JobEnd) (read : List Content) → IsMet (record { job = job; ended = e; contents = read; asked = p.asked; tries = p.tries; calls = p.calls }) e → Due p p.jobs e read
     due-of e read met = subst (λ (js : List Job). Due p js e read) (sym first) met
 
     quit-of : stops p ≡ true → job.quit ≡ Some p.asked
@@ -254,14 +322,13 @@ module _ (script : Script) (is : IsScript script) (host : HostNo) where
           later same t room may
 
     more-stands : (later : Progress) → later.jobs ≡ job ∷ jobs → Sound later → later.tries + 1 ≤ script.tries → (stopped : Bool) → stops p ≡ stopped → StandsWell (once_more script host p later stopped)
-    more-stands later same t room true e = ended-stands p (job_ends.Gave p.tries causes.Quit) [] s (due-of (job_ends.Gave p.tries causes.Quit) [] (quit-of e, refl, few))
+    more-stands later same t room true e = ended-stands p (job_ends.Gave p.tries causes.Quit) [] s (due-of (job_ends.Gave p.tries causes.Quit) [] (inr (inl (refl, quit-of e)), refl, few))
     more-stands later same t room false e = again later same t room
 
-    refused-stands : (cause : Cause) → Stands script host job.task p.calls cause → (last : Bool) → ((p.tries == script.tries) || is_spent cause) ≡ last → StandsWell (attempt_refused script host p cause last)
+    refused-stands : (cause : Cause) → Stands script host AtDraw job.task p.calls cause → (last : Bool) → ((p.tries == script.tries) || is_spent cause) ≡ last → StandsWell (attempt_refused script host p cause last)
     refused-stands cause stands true e =
         ended-stands p (job_ends.Gave p.tries cause) [] s
-        (due-of (job_ends.Gave p.tries cause) []
-        (stands-in script host (record { job = job; ended = job_ends.Gave p.tries cause; contents = []; asked = p.asked; tries = p.tries; calls = p.calls }) cause stands, refl, all-tries script.tries p.tries cause few e))
+        (due-of (job_ends.Gave p.tries cause) [] (inl stands, refl, all-tries script.tries p.tries cause few e))
     refused-stands cause stands false e =
         more-stands p first s (room (p.tries == script.tries) (is_spent cause) refl e) (stops p) refl where
           room : (b c : Bool) → (p.tries == script.tries) ≡ b → (b || c) ≡ false → p.tries + 1 ≤ script.tries
@@ -269,15 +336,14 @@ module _ (script : Script) (is : IsScript script) (host : HostNo) where
           room false c same e = grind (arith, nat_tests)
 
     mended-stands : (last : Bool) → StandsWell (row_mended script host p last)
-    mended-stands true = ended-plain (record p { gone = None }) job_ends.Rebuilt [] (record { met = s.met }) (λ x. tt)
-    mended-stands false = more-stands (next_row p) first (record { met = s.met }) (let least = is.tries_least in omega arith) (stops p) refl
+    mended-stands true = ended-plain (record p { gone = None }) job_ends.Rebuilt [] (record { met = s.met; aims = s.aims }) (λ x. tt)
+    mended-stands false = more-stands (next_row p) first (record { met = s.met; aims = s.aims }) (let least = is.tries_least in omega arith) (stops p) refl
 
-    part-met : (n : Number) (made : ℕ) (cause : Cause) → Stands script host job.task p.calls cause → Due p p.jobs (job_ends.Part n made cause) []
+    part-met : (n : Number) (made : ℕ) (cause : Cause) → Stands script host AtDraw job.task p.calls cause → Due p p.jobs (job_ends.Part n made cause) []
     part-met n made cause stands =
-        due-of (job_ends.Part n made cause) []
-        (stands-in script host (record { job = job; ended = job_ends.Part n made cause; contents = []; asked = p.asked; tries = p.tries; calls = p.calls }) cause stands)
+        due-of (job_ends.Part n made cause) [] (inl stands)
 
-    attempt-stands : (read : List Content) (ended : Ended) → FinishStands script host job.task p.calls (record { ended = ended; contents = read }) → StandsWell (attempt_ended script host p read ended)
+    attempt-stands : (read : List Content) (ended : Ended) → FinishStands script host AtDraw job.task p.calls (record { ended = ended; contents = read }) → StandsWell (attempt_ended script host p read ended)
     attempt-stands read (ends.Read n) stands = ended-plain p (job_ends.Read n) read s (λ x. tt)
     attempt-stands read (ends.Wrote n) stands = ended-plain p (job_ends.Wrote n) [] s (λ x. tt)
     attempt-stands read (ends.Part n made cause) stands = ended-stands p (job_ends.Part n made cause) [] s (part-met n made cause stands)
@@ -290,24 +356,24 @@ module _ (script : Script) (is : IsScript script) (host : HostNo) where
     stop-met stopped (ends.Read n) c = absurd c
     stop-met stopped (ends.Wrote n) c = absurd c
     stop-met stopped (ends.Part n made cause) c =
-        subst (λ (k : Cause). Due p p.jobs (job_ends.Part n made k) []) (sym c) (due-of (job_ends.Part n made causes.Quit) [] (quit-of stopped))
+        subst (λ (k : Cause). Due p p.jobs (job_ends.Part n made k) []) (sym c) (due-of (job_ends.Part n made causes.Quit) [] (inr (inl (refl, quit-of stopped))))
     stop-met stopped (ends.Recovered n closed lost) c = due-plain p p.jobs (job_ends.Recovered n closed lost) [] (λ x. tt)
-    stop-met stopped (ends.Refused cause) c = due-of (job_ends.Gave p.tries causes.Quit) [] (quit-of stopped, refl, few)
+    stop-met stopped (ends.Refused cause) c = due-of (job_ends.Gave p.tries causes.Quit) [] (inr (inl (refl, quit-of stopped)), refl, few)
     stop-met stopped ends.Mended c = absurd c
 
-    asks-stand : (steps : Steps Finish) (stop : Ended) → IsStopCause stop → Caused host (FinishStands script host job.task) p.calls steps → (stopped : Bool) → stops p ≡ stopped → StandsWell (asks_on p steps stop stopped)
+    asks-stand : (steps : Steps Finish) (stop : Ended) → IsStopCause stop → Caused host AtDraw (FinishStands script host AtDraw job.task) p.calls steps → (stopped : Bool) → stops p ≡ stopped → StandsWell (asks_on p steps stop stopped)
     asks-stand steps stop c caused true e =
         let t = next-sound p (quit_end p.tries stop) [] s (stop-met e stop c) in
-        record { sound = record { met = t.met }; work = tt }
+        record { sound = record { met = t.met; aims = t.aims }; work = tt }
     asks-stand steps stop c caused false e = record {
-      sound = record { met = s.met };
+      sound = record { met = s.met; aims = s.aims };
       work = subst (λ (js : List Job). TriesJob p.tries p.calls js steps) (sym first) (record { may = may; few = few; caused = caused });
     }
 
     -- steps that are left
-    left-stands : (steps : Steps Finish) → Caused host (FinishStands script host job.task) p.calls steps → StandsWell (steps_left script host p steps)
+    left-stands : (steps : Steps Finish) → Caused host AtDraw (FinishStands script host AtDraw job.task) p.calls steps → StandsWell (steps_left script host p steps)
     left-stands (Asks e t c k) caused = asks-stand (Asks e t c k) t caused.0 caused (stops p) refl
-    left-stands (Draws k) caused = record { sound = record { met = s.met }; work = tt }
+    left-stands (Draws k) caused = record { sound = record { met = s.met; aims = s.aims }; work = tt }
     left-stands (Ends finish) caused = attempt-stands finish.contents finish.ended caused
 
   -- Calls
@@ -316,25 +382,32 @@ module _ (script : Script) (is : IsScript script) (host : HostNo) where
     answers : (errand : Errand) → errand ≡ errand_of call → IsReply errand call
     answers errand same = record { asked = sym same; fit = subst (λ (e : Errand). fits e.request call.answer.reply ≡ true) (sym same) fit }
 
-    trying-told : (p : Progress) (js : List Job) → p.jobs ≡ js → (steps : Steps Finish) → Sound p → TriesJob p.tries p.calls js steps → next_errand steps ≡ Some (errand_of call)
+    -- where it draws then, this is known of what it has seen
+    abbrev Known : Progress → Steps Finish → Type 0
+    Known p steps =
+        draws (behind steps call.answer.reply) ≡ true → (n : Number) → IsNone (next_number host n)
+        → n ≡ (told host (record { seen = p.seen; steps = steps }) call.answer.reply).seen → AtDraw (call ∷ p.calls) n
+
+    trying-told : (p : Progress) (js : List Job) → p.jobs ≡ js → (steps : Steps Finish) → Sound p → TriesJob p.tries p.calls js steps → next_errand steps ≡ Some (errand_of call) → Known p steps
         → StandsWell (work_told script host (call_counted p call) call.answer.reply (Trying steps))
-    trying-told p [] first steps s f asked = absurd f
-    trying-told p (job ∷ jobs) first steps s f asked =
+    trying-told p [] first steps s f asked known = absurd f
+    trying-told p (job ∷ jobs) first steps s f asked known =
         let after = told host (record { seen = p.seen; steps = steps }) call.answer.reply in
-        left-stands (record (call_counted p call) { seen = after.seen }) job jobs first (record { met = s.met }) f.may f.few after.steps
-        (settled-caused host (FinishStands script host job.task) (call ∷ p.calls) (sees p.seen call.answer.reply) (behind steps call.answer.reply)
-        (behind-caused host (FinishStands script host job.task) p.calls call steps f.caused (λ e next. answers e (the-same e next)) asked)) where
+        left-stands (record (call_counted p call) { seen = after.seen }) job jobs first (record { met = s.met; aims = s.aims }) f.may f.few after.steps
+        (settled-caused host AtDraw (FinishStands script host AtDraw job.task) (call ∷ p.calls) (sees p.seen call.answer.reply) (behind steps call.answer.reply) known
+        (behind-caused host AtDraw (FinishStands script host AtDraw job.task) p.calls call steps f.caused (λ e next. answers e (the-same e next)) asked)) where
           the-same : (e : Errand) → next_errand steps ≡ Some e → e ≡ errand_of call
           the-same e next = let both : Some e ≡ Some (errand_of call) = sym next ∙ asked in cc
 
     work-stands : (p : Progress) (work : Work) → Sound p → Works p.tries p.calls p.jobs work → p.work ≡ work → work_errand work ≡ Some (errand_of call)
+        → ((steps : Steps Finish) → p.work ≡ Trying steps → Known p steps)
         → StandsWell (work_told script host (call_counted p call) call.answer.reply work)
-    work-stands p (Trying steps) s f same asked = trying-told p p.jobs refl steps s f asked
-    work-stands p (Losing bay) s f same asked =
-        ended-plain (record (call_counted p call) { gone = Some (record { bay = bay; fitted = false }) }) job_ends.Lost [] (record { met = s.met }) (λ x. tt)
-    work-stands p (Fitting bay) s f same asked =
-        ended-plain (record (call_counted p call) { gone = Some (record { bay = bay; fitted = true }) }) job_ends.Fitted [] (record { met = s.met }) (λ x. tt)
-    work-stands p Over s f same asked = cc
+    work-stands p (Trying steps) s f same asked known = trying-told p p.jobs refl steps s f asked (known steps same)
+    work-stands p (Losing bay) s f same asked known =
+        ended-plain (record (call_counted p call) { gone = Some (record { bay = bay; fitted = false }) }) job_ends.Lost [] (record { met = s.met; aims = s.aims }) (λ x. tt)
+    work-stands p (Fitting bay) s f same asked known =
+        ended-plain (record (call_counted p call) { gone = Some (record { bay = bay; fitted = true }) }) job_ends.Fitted [] (record { met = s.met; aims = s.aims }) (λ x. tt)
+    work-stands p Over s f same asked known = cc
 
     was-asked : (clock moment : ℕ) (o : Option Errand) → sent_by host clock moment o ≡ Some (record { bay = call.bay; ask = call.ask }) → o ≡ Some (errand_of call)
     was-asked clock moment None e = cc
@@ -346,21 +419,80 @@ module _ (script : Script) (is : IsScript script) (host : HostNo) where
         let other : record { bay = call.bay; request = errand.request } ≡ errand_of call = ap (λ (w : Request). record { bay = call.bay; request = w }) requests in
         ap (λ (x : Errand). Some x) (one ∙ other)
 
-  call-stands : (earlier : List Call) (call : Call) → IsNext script earlier call → (own : Bool) → (call.ask.host.0 == host.0) ≡ own → StandsWell (progress_at script host earlier)
-      → StandsWell (if_taken script host (progress_at script host earlier) call own)
-  call-stands earlier call next true at w =
+  -- a draw in this history
+  at-draw : (earlier later : List Call) (call : Call) (fit : fits call.ask.what call.answer.reply ≡ true) → history ≡ later ++ call ∷ earlier → (call.ask.host.0 == host.0) ≡ true
+      → (steps : Steps Finish) → (progress_at script host earlier).work ≡ Trying steps → Known call fit (progress_at script host earlier) steps
+  at-draw earlier later call fit whole own steps works d n none same =
+      subst (Sometime (IsDrawnAt (call ∷ p.calls) n)) (sym whole)
+      (sometime-in (IsDrawnAt (call ∷ p.calls) n) later (call ∷ earlier) ((refl, steps, works, d), (same ∙ sym told_so ∙ sym worked ∙ sym taken, none))) where
+        p : Progress
+        p = progress_at script host earlier
+
+        told_so : (work_told script host (call_counted p call) call.answer.reply (Trying steps)).seen ≡ (told host (record { seen = p.seen; steps = steps }) call.answer.reply).seen
+        told_so = told-seen script host p call steps (subst (λ (m : Number). IsNone (next_number host m)) same none)
+
+        worked : (takes script host p call).seen ≡ (work_told script host (call_counted p call) call.answer.reply (Trying steps)).seen
+        worked = ap (λ (w : Work). (work_told script host (call_counted p call) call.answer.reply w).seen) works
+
+        taken : (progress_at script host (call ∷ earlier)).seen ≡ (takes script host p call).seen
+        taken = ap (λ (b : Bool). (if_taken script host p call b).seen) own
+
+  call-stands : (earlier later : List Call) (call : Call) → history ≡ later ++ call ∷ earlier → IsNext script earlier call → (own : Bool) → (call.ask.host.0 == host.0) ≡ own
+      → StandsWell (progress_at script host earlier) → StandsWell (if_taken script host (progress_at script host earlier) call own)
+  call-stands earlier later call whole next true at w =
       let p : Progress = progress_at script host earlier in
       let sent : Sent = record { bay = call.bay; ask = call.ask } in
       let asked : asks host p call.ask.moment ≡ Some sent =
       subst (λ (h : HostNo). asks h (progress_at script h earlier) call.ask.moment ≡ Some sent) (same-host call.ask.host host at) next.asked in
       let ruled = ap (λ (c : Call). fits call.ask.what c.answer.reply) next.replied in
       let fit : fits call.ask.what call.answer.reply ≡ true = ruled ∙ replies_fit_lem (bay_at script call.bay earlier) call.ask (is_fault call.answer.reply) in
-      work-stands call fit p p.work w.sound w.work refl (was-asked call fit p.clock call.ask.moment (work_errand p.work) asked)
-  call-stands earlier call next false at w = w
+      work-stands call fit p p.work w.sound w.work refl (was-asked call fit p.clock call.ask.moment (work_errand p.work) asked) (at-draw earlier later call fit whole at)
+  call-stands earlier later call whole next false at w = w
 
-  history-stands : (history : List Call) → IsHistory script history → StandsWell (progress_at script host history)
-  history-stands [] h = start-stands (jobs_of script host) (before_start script host) refl refl (record { met = tt })
-  history-stands (call ∷ earlier) h = call-stands earlier call h.1 (call.ask.host.0 == host.0) refl (history-stands earlier h.0)
+  history-stands : (now later : List Call) → history ≡ later ++ now → IsHistory script now → StandsWell (progress_at script host now)
+  history-stands [] later whole h = start-stands (jobs_of script host) (before_start script host) refl refl (record { met = tt; aims = script-aims script host is })
+  history-stands (call ∷ earlier) later whole h =
+      call-stands earlier later call whole h.1 (call.ask.host.0 == host.0) refl
+      (history-stands earlier (later ++ call ∷ []) (whole ∙ sym (append_assoc later (call ∷ []) earlier)) h.0)
+
+  -- what stands behind a result is its cause
+  spent-in : (e : Ending) (seen : Number) → Sometime (λ made. AtDraw made seen) e.calls → IsCauseIn script history host e (causes.Spent seen)
+  spent-in e seen h =
+      sometime-map (λ now. Sometime (λ made. IsDrawnAt made seen now) e.calls) (IsDrawSpent script host e seen)
+      (λ now d. let both = sometime-both (DrawsAfter script host now) (WasSpent seen now) e.calls d in (inr both.0, both.1.0, both.1.1)) history
+      (sometime-swap (λ made now. IsDrawnAt made seen now) e.calls history h)
+
+  cause-in : (e : Ending) (cause : Cause) → IsFounded e cause → ((seen : Number) → spent_in cause ≡ Some seen → e.calls ≡ [] → Sometime (IsIdDraw script host e seen) history)
+      → IsCauseIn script history host e cause
+  cause-in e cause (inl s) drawn = stands-in script history host AtDraw e (spent-in e) cause s
+  cause-in e cause (inr (inl quit)) drawn = subst (IsCauseIn script history host e) (sym quit.0) quit.1
+  cause-in e cause (inr (inr spent)) drawn =
+      subst (IsCauseIn script history host e) (sym spent.1)
+      (sometime-map (IsIdDraw script host e spent.0) (IsDrawSpent script host e spent.0) (λ now d. (inl (spent.2, d.0), d.1, d.2)) history (drawn spent.0 (ap spent_in spent.1) spent.2))
+
+  ending-met : (e : Ending) (ended : JobEnd) → IsMet e ended → ((seen : Number) → spent_of ended ≡ Some seen → e.calls ≡ [] → Sometime (IsIdDraw script host e seen) history)
+      → MeetsCause script history host e ended
+  ending-met e (job_ends.Part n made cause) met drawn = cause-in e cause met drawn
+  ending-met e (job_ends.Gave n cause) met drawn = (cause-in e cause met.0 drawn, met.1, met.2)
+  ending-met e (job_ends.Read n) met drawn = tt
+  ending-met e (job_ends.Wrote n) met drawn = tt
+  ending-met e (job_ends.Recovered n closed lost) met drawn = tt
+  ending-met e job_ends.Lost met drawn = tt
+  ending-met e job_ends.Fitted met drawn = tt
+  ending-met e job_ends.Rebuilt met drawn = tt
+  ending-met e (job_ends.StillMissing bay) met drawn = tt
+  ending-met e (job_ends.NotLost bay) met drawn = tt
+  ending-met e (job_ends.NotFitted bay) met drawn = tt
+  ending-met e job_ends.NoObject met drawn = tt
+  ending-met e (job_ends.PastEnd blocks) met drawn = tt
+  ending-met e (job_ends.TooManyRows rows) met drawn = tt
+
+  all-met : (es : List Ending) → AllByRecursion Met es → AllByRecursion (IsIdDrawn script host history) es → AllByRecursion (λ (e : Ending). MeetsCause script history host e e.ended) es
+  all-met [] met drawn = tt
+  all-met (e ∷ es) met drawn = (ending-met e e.ended met.0 drawn.0, all-met es met.1 drawn.1)
+
+  pub causes-met : IsHistory script history → AllByRecursion (λ (e : Ending). MeetsCause script history host e e.ended) (endings_at script history host)
+  causes-met along = all-met (endings_at script history host) (history-stands history [] refl along).sound.met (ids-are-drawn script host history)
 
 pub causes_are_met : CausesAreMet
-causes_are_met script history is along host = (history-stands script is host history along).sound.met
+causes_are_met script history is along host = causes-met script is host history along

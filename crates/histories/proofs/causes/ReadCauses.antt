@@ -1,5 +1,6 @@
 -- The causes of reads.
 use Rattle.std.proofs.Common.{◌≡◌, inl, inr, refl, sym, subst, ℕ, Bool, true, false, if◌then◌else◌, List, [], ◌∷◌, ◌++◌, Option, Some, None, Ok}
+use Rattle.std.specs.Prelude.{IsNone}
 use Rattle.std.specs.List.{AllByRecursion}
 use Rattle.raid_base.specs.declared.numbers.BayNo.{BayNo}
 use Rattle.raid_base.specs.declared.numbers.HostNo.{HostNo}
@@ -19,7 +20,7 @@ use Rattle.raid_base.specs.declared.jobs.RowPart.{RowPart}
 use Rattle.raid_base.specs.declared.jobs.Task.{Task}
 use Rattle.raid_base.specs.declared.jobs.Task.TheVariants as tasks
 use Rattle.raid_base.specs.Fits.{fits, fits_release}
-use Rattle.raid_base.specs.Numbers.{draw}
+use Rattle.raid_base.specs.Numbers.{next_number, draw}
 use Rattle.raid_base.specs.Replies.{is_done}
 use Rattle.raid_base.specs.Steps.{Steps, bind, run, Walk, Through, Stopped}
 use Rattle.stripe_layout.specs.Placement.{parity_bay, bays_of, units_in, units_out}
@@ -86,7 +87,7 @@ are-numbered : (row : RowNo) (id n : Number) (bays : List BayNo) → AllByRecurs
 are-numbered row id n [] = tt
 are-numbered row id n (bay ∷ bays) = ((row, id, n, refl), are-numbered row id n bays)
 
-module _ (script : Script) (host : HostNo) (task : Task) (reads : IsRead task) (id : Number) (parts : List RowPart) (blocks : List (List ℕ)) where
+module _ (script : Script) (host : HostNo) (S : List Call → Number → Type 0) (task : Task) (reads : IsRead task) (id : Number) (parts : List RowPart) (blocks : List (List ℕ)) where
   abbrev a : Access
   a = access script id parts blocks
 
@@ -94,7 +95,7 @@ module _ (script : Script) (host : HostNo) (task : Task) (reads : IsRead task) (
   plain = read-plain task reads
 
   abbrev Ending : List Call → Finish → Type 0
-  Ending = FinishStands script host task
+  Ending = FinishStands script host S task
 
   -- the end
   all-numbered : (n : Number) (rows : List Row) → AllByRecursion IsNumbered (numbered_releases a n rows)
@@ -103,57 +104,57 @@ module _ (script : Script) (host : HostNo) (task : Task) (reads : IsRead task) (
       all-append IsNumbered (releases id row.part.row (Some n) (row_readers script.n row)) (numbered_releases a n rows)
       (are-numbered row.part.row id n (row_readers script.n row)) (all-numbered n rows)
 
-  frees : script.mode ≡ Lock → (n : Number) (rows : List Row) (calls : List Call) → Caused host Ending calls (read_drawn a rows (Ok n))
+  frees : script.mode ≡ Lock → (n : Number) (rows : List Row) (calls : List Call) → Caused host S Ending calls (read_drawn a rows (Ok n))
   frees lock n rows calls =
-      caused-walk host Ending IsNumbered ReaderGone freeing (read_freed a n rows) (λ o. tt)
+      caused-walk host S Ending IsNumbered ReaderGone freeing (read_freed a n rows) (λ o. tt)
       (λ e cs o call p g is. freed cs call o e p is g) ended (λ e cs o call p g is stop. absurd (some-none stop))
       (numbered_releases a n rows) calls None (all-numbered n rows) tt where
-        ended : (cs : List Call) (o : Option RowNo) → ReaderGone cs o → Caused host Ending cs (read_freed a n rows (Through o))
+        ended : (cs : List Call) (o : Option RowNo) → ReaderGone cs o → Caused host S Ending cs (read_freed a n rows (Through o))
         ended cs None g = tt
         ended cs (Some row) g = (lock, reads, g)
 
-  draws : script.mode ≡ Lock → (rows : List Row) (calls : List Call) (seen : Number) → Caused host Ending calls (read_drawn a rows (draw host seen))
-  draws lock rows calls seen =
-      caused-draw host Ending calls (read_drawn a rows) (λ n. frees lock n rows calls)
-      (λ spent none. refuses script host task (read_releases a rows) (causes.Spent spent.seen) calls none) seen
+  draws : script.mode ≡ Lock → (rows : List Row) (calls : List Call) (seen : Number) → (IsNone (next_number host seen) → S calls seen) → Caused host S Ending calls (read_drawn a rows (draw host seen))
+  draws lock rows calls seen known =
+      caused-draw host S Ending calls (read_drawn a rows) (λ n. frees lock n rows calls)
+      (λ spent none. refuses script host S task (read_releases a rows) (causes.Spent spent.seen) calls none) seen known
 
-  numbered : (mode : Mode) → script.mode ≡ mode → (rows : List Row) (calls : List Call) → Caused host Ending calls (read_numbered mode a rows)
+  numbered : (mode : Mode) → script.mode ≡ mode → (rows : List Row) (calls : List Call) → Caused host S Ending calls (read_numbered mode a rows)
   numbered Order same rows calls = tt
-  numbered Lock same rows calls = λ seen. draws same rows calls seen
+  numbered Lock same rows calls = λ seen known. draws same rows calls seen known
 
   -- shares
-  stops : (calls : List Call) (taken : Taken) (e : Errand) (r : Reply) → Stands script host task calls (why (behind_from script.mode id) taken e r) → Caused host Ending calls (read_refused a taken e r)
-  stops calls taken e r s = refuses script host task (read_releases a (taken.before ++ taken.row ∷ [])) (why (behind_from script.mode id) taken e r) calls s
+  stops : (calls : List Call) (taken : Taken) (e : Errand) (r : Reply) → Stands script host S task calls (why (behind_from script.mode id) taken e r) → Caused host S Ending calls (read_refused a taken e r)
+  stops calls taken e r s = refuses script host S task (read_releases a (taken.before ++ taken.row ∷ [])) (why (behind_from script.mode id) taken e r) calls s
 
-  rightly : (row : RowNo) → BehindRightly script host task (behind_from script.mode id) (Share row id true)
-  rightly row = behind-rightly script host task script.mode refl plain id (Share row id true) refl
+  rightly : (row : RowNo) → BehindRightly script host S task (behind_from script.mode id) (Share row id true)
+  rightly row = behind-rightly script host S task script.mode refl plain id (Share row id true) refl
 
   shares-caused : (keep : Option Grant → Row → Row) (f : Walk Taken → Steps Finish)
-      → ((calls : List Call) (taken : Taken) → MissingTold taken.missing calls → Caused host Ending calls (f (Through taken)))
-      → ((calls : List Call) (taken : Taken) (e : Errand) (r : Reply) → Stands script host task calls (why (behind_from script.mode id) taken e r) → Caused host Ending calls (f (Stopped taken e r)))
+      → ((calls : List Call) (taken : Taken) → MissingTold taken.missing calls → Caused host S Ending calls (f (Through taken)))
+      → ((calls : List Call) (taken : Taken) (e : Errand) (r : Reply) → Stands script host S task calls (why (behind_from script.mode id) taken e r) → Caused host S Ending calls (f (Stopped taken e r)))
       → (row : RowNo) (bays : List BayNo) (calls : List Call) (taken : Taken) → MissingTold taken.missing calls
-      → Caused host Ending calls (bind (run (sharing a keep) (shares id row bays) taken) f)
+      → Caused host S Ending calls (bind (run (sharing a keep) (shares id row bays) taken) f)
   shares-caused keep f on off row bays calls taken missed =
-      caused-takes script host task (behind_from script.mode id) f off keep (λ cs t. Unit {0}) (λ cs t call bay o g k. tt) (λ cs t m k. on cs t m)
-      (shares id row bays) calls taken (shares-take script host task (behind_from script.mode id) id row (rightly row) bays) missed tt
+      caused-takes script host S task (behind_from script.mode id) f off keep (λ cs t. Unit {0}) (λ cs t call bay o g k. tt) (λ cs t m k. on cs t m)
+      (shares id row bays) calls taken (shares-take script host S task (behind_from script.mode id) id row (rightly row) bays) missed tt
 
-  module _ (rest : Rows → Steps Finish) (rest_caused : (calls : List Call) (done : Rows) → MissingTold done.missing calls → Caused host Ending calls (rest done)) where
-    others : (calls : List Call) (taken : Taken) → MissingTold taken.missing calls → Caused host Ending calls (parity_shared a rest (Through taken))
+  module _ (rest : Rows → Steps Finish) (rest_caused : (calls : List Call) (done : Rows) → MissingTold done.missing calls → Caused host S Ending calls (rest done)) where
+    others : (calls : List Call) (taken : Taken) → MissingTold taken.missing calls → Caused host S Ending calls (parity_shared a rest (Through taken))
     others calls taken missed =
         shares-caused with_other (row_shared a rest) (λ cs t m. rest_caused cs (row_ended t) m) stops
         taken.row.part.row (bays_of script.n taken.row.part.row (units_out script.n taken.row.part.mask)) calls taken missed
 
-    shares-rest : (b : Bool) (calls : List Call) (taken : Taken) → MissingTold taken.missing calls → Caused host Ending calls (share_rest a rest taken b)
+    shares-rest : (b : Bool) (calls : List Call) (taken : Taken) → MissingTold taken.missing calls → Caused host S Ending calls (share_rest a rest taken b)
     shares-rest false calls taken missed = rest_caused calls (row_ended taken) missed
     shares-rest true calls taken missed =
         shares-caused with_parity (parity_shared a rest) others stops taken.row.part.row (parity_bay script.n taken.row.part.row ∷ []) calls taken missed
 
-  rows-caused : (left : List RowPart) (calls : List Call) (done : Rows) → MissingTold done.missing calls → Caused host Ending calls (read_rows a left done)
+  rows-caused : (left : List RowPart) (calls : List Call) (done : Rows) → MissingTold done.missing calls → Caused host S Ending calls (read_rows a left done)
   rows-caused [] calls done missed = numbered script.mode refl done.rows calls
   rows-caused (part ∷ left) calls done missed =
       shares-caused with_wanted (wanted_shared a (read_rows a left))
       (λ cs t m. shares-rest (read_rows a left) (rows-caused left) (lacks t.row.wanted) cs t m) stops
       part.row (bays_of script.n part.row (units_in script.n part.mask)) calls (begun part done) missed
 
-  pub reads_caused : Caused host Ending [] (read_steps a)
+  pub reads_caused : Caused host S Ending [] (read_steps a)
   reads_caused = rows-caused parts [] no_rows none-missing

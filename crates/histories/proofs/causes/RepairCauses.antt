@@ -1,6 +1,6 @@
 -- The causes of rebuilds and recoveries.
 use Rattle.std.proofs.Common.{◌≡◌, inl, inr, refl, sym, ap, subst, ◌∙◌, ℕ, ◌==◌, Bool, true, false, if◌then◌else◌, not, ◌&&◌, List, [], ◌∷◌, ◌++◌, Option, Some, None, IfSome, is_none, option_map}
-use Rattle.std.specs.Prelude.{is_some}
+use Rattle.std.specs.Prelude.{IsNone, is_some}
 use Rattle.std.specs.List.{AllByRecursion}
 use Rattle.std.proofs.lemmas.Bool.{eq-eqb}
 use Rattle.raid_base.specs.declared.numbers.BayNo.{BayNo}
@@ -22,7 +22,7 @@ use Rattle.raid_base.specs.declared.jobs.Ended.TheVariants as ends
 use Rattle.raid_base.specs.declared.jobs.Task.{Task}
 use Rattle.raid_base.specs.declared.jobs.Task.TheVariants as tasks
 use Rattle.raid_base.specs.Fits.{fits, fits_confirm, fits_put}
-use Rattle.raid_base.specs.Numbers.{draw}
+use Rattle.raid_base.specs.Numbers.{next_number, draw}
 use Rattle.raid_base.specs.Replies.{grant_of, is_held, is_missing}
 use Rattle.raid_base.specs.Steps.{bind, Through, Stopped, run}
 use Rattle.stripe_layout.specs.Placement.{parity_bay, bays_of, units}
@@ -40,11 +40,11 @@ use Rattle.histories.specs.Causes.{IsMendClaim, IsGranted, IsLacking, is_held_we
 use Rattle.histories.proofs.causes.CauseLemmas.{IsHeldBadlyAfter, Stands, IsReply, bay-asked, what-asked, IsTake, Caused, caused-go, caused-walk, caused-one, caused-draw, claim-takes, MissingTold, none-missing, missing-more, grant-there, ParityTold, parity-more, passed, any-errands, FinishStands, releases-caused, refuses, BehindRightly, never-behind, refusal-stands, unrefused-plain, else-stands, caused-takes, caused-parity, claims-take}
 
 -- a put that was not done
-module _ (script : Script) (host : HostNo) (task : Task) (row : RowNo) (id n : Number) (cell : Cell) (bay : BayNo) where
+module _ (script : Script) (host : HostNo) (S : List Call → Number → Type 0) (task : Task) (row : RowNo) (id n : Number) (cell : Cell) (bay : BayNo) where
   pub put-stopped : (calls : List Call) (call : Call) → IsReply (put id row n cell bay) call → on_done tt (put id row n cell bay) call.answer.reply ≡ None
-      → Stands script host task (call ∷ calls) (put_cause row (put id row n cell bay) call.answer.reply)
+      → Stands script host S task (call ∷ calls) (put_cause row (put id row n cell bay) call.answer.reply)
   put-stopped calls call is stop = by call.answer.reply refl is.fit stop where
-    by : (r : Reply) → call.answer.reply ≡ r → fits_put r ≡ true → on_done tt (put id row n cell bay) r ≡ None → Stands script host task (call ∷ calls) (put_cause row (put id row n cell bay) r)
+    by : (r : Reply) → call.answer.reply ≡ r → fits_put r ≡ true → on_done tt (put id row n cell bay) r ≡ None → Stands script host S task (call ∷ calls) (put_cause row (put id row n cell bay) r)
     by (replies.NoNote life) same fit stop = inl (id, n, cell, what-asked is, (life, same))
     by replies.Fault same fit stop = inl (bay-asked is, same)
     by replies.Done same fit stop = cc
@@ -84,56 +84,56 @@ step-some P true u p = p
 step-some P false u p = tt
 
 -- Rebuilds
-module _ (script : Script) (host : HostNo) (target : BayNo) (id : Number) (row : RowNo) where
+module _ (script : Script) (host : HostNo) (S : List Call → Number → Type 0) (target : BayNo) (id : Number) (row : RowNo) where
   abbrev m : Repair
   m = record { n = script.n; id = id; row = row; target = target }
 
   abbrev Ending : List Call → Finish → Type 0
-  Ending = FinishStands script host (tasks.Rebuild target)
+  Ending = FinishStands script host S (tasks.Rebuild target)
 
   abbrev CauseStands : List Call → Cause → Type 0
-  CauseStands = Stands script host (tasks.Rebuild target)
+  CauseStands = Stands script host S (tasks.Rebuild target)
 
-  mend-floor : (what : Request) → BehindRightly script host (tasks.Rebuild target) None what
-  mend-floor what = never-behind script host (tasks.Rebuild target) (λ plain. plain) what
+  mend-floor : (what : Request) → BehindRightly script host S (tasks.Rebuild target) None what
+  mend-floor what = never-behind script host S (tasks.Rebuild target) (λ plain. plain) what
 
-  mended : (es : List Errand) (calls : List Call) → Caused host Ending calls (released_steps es ends.Mended)
-  mended es calls = releases-caused script host (tasks.Rebuild target) ends.Mended (λ calls call i. tt) es calls tt
+  mended : (es : List Errand) (calls : List Call) → Caused host S Ending calls (released_steps es ends.Mended)
+  mended es calls = releases-caused script host S (tasks.Rebuild target) ends.Mended (λ calls call i. tt) es calls tt
 
-  mend-refuses : (es : List Errand) (cause : Cause) (calls : List Call) → CauseStands calls cause → Caused host Ending calls (refused_steps es cause)
-  mend-refuses = refuses script host (tasks.Rebuild target)
+  mend-refuses : (es : List Errand) (cause : Cause) (calls : List Call) → CauseStands calls cause → Caused host S Ending calls (refused_steps es cause)
+  mend-refuses = refuses script host S (tasks.Rebuild target)
 
-  mend-puts : (holds : List Hold) (n : Number) (shown : Bool) (calls : List Call) → Caused host Ending calls (mend_numbered m holds n shown)
+  mend-puts : (holds : List Hold) (n : Number) (shown : Bool) (calls : List Call) → Caused host S Ending calls (mend_numbered m holds n shown)
   mend-puts holds n true calls = mended (mend_releases m holds) calls
   mend-puts holds n false calls =
-      caused-one host Ending mend_putting (mend_put m holds) (put id row n (mended_cell m holds) target) calls tt tt
-      (λ call is. passed (λ u. Caused host Ending (call ∷ calls) (mend_put m holds (Through u)))
+      caused-one host S Ending mend_putting (mend_put m holds) (put id row n (mended_cell m holds) target) calls tt tt
+      (λ call is. passed (λ u. Caused host S Ending (call ∷ calls) (mend_put m holds (Through u)))
       (on_done tt (put id row n (mended_cell m holds) target) call.answer.reply) (λ u. mended (mend_releases m (without_target m holds)) (call ∷ calls)))
       (λ call is stop. mend-refuses (mend_releases m holds) (put_cause row (put id row n (mended_cell m holds) target) call.answer.reply) (call ∷ calls)
-      (put-stopped script host (tasks.Rebuild target) row id n (mended_cell m holds) target calls call is stop))
+      (put-stopped script host S (tasks.Rebuild target) row id n (mended_cell m holds) target calls call is stop))
 
-  mend-draws : (holds : List Hold) (calls : List Call) (seen : Number) → Caused host Ending calls (mend_drawn m holds (draw host seen))
-  mend-draws holds calls seen =
-      caused-draw host Ending calls (mend_drawn m holds) (λ n. mend-puts holds n (is_shown target holds) calls)
-      (λ spent none. mend-refuses (mend_releases m holds) (causes.Spent spent.seen) calls none) seen
+  mend-draws : (holds : List Hold) (calls : List Call) (seen : Number) → (IsNone (next_number host seen) → S calls seen) → Caused host S Ending calls (mend_drawn m holds (draw host seen))
+  mend-draws holds calls seen known =
+      caused-draw host S Ending calls (mend_drawn m holds) (λ n. mend-puts holds n (is_shown target holds) calls)
+      (λ spent none. mend-refuses (mend_releases m holds) (causes.Spent spent.seen) calls none) seen known
 
   -- the confirm of the parity
   abbrev mend_confirm : Errand
   mend_confirm = confirm id row false (parity_bay script.n row)
 
-  mend-confirms : (holds : List Hold) (calls : List Call) → MissingTold None calls → Happened (IsGranted script.n row) calls → Caused host Ending calls (mend_claimed m (Through holds))
-  mend-confirms holds calls missed granted = caused-one host Ending mend_confirming (mend_confirmed m holds) mend_confirm calls tt tt on off where
-    on : (call : Call) → IsReply mend_confirm call → IfSome (mend_confirming.step tt mend_confirm call.answer.reply) (λ u. Caused host Ending (call ∷ calls) (mend_confirmed m holds (Through u)))
+  mend-confirms : (holds : List Hold) (calls : List Call) → MissingTold None calls → Happened (IsGranted script.n row) calls → Caused host S Ending calls (mend_claimed m (Through holds))
+  mend-confirms holds calls missed granted = caused-one host S Ending mend_confirming (mend_confirmed m holds) mend_confirm calls tt tt on off where
+    on : (call : Call) → IsReply mend_confirm call → IfSome (mend_confirming.step tt mend_confirm call.answer.reply) (λ u. Caused host S Ending (call ∷ calls) (mend_confirmed m holds (Through u)))
     on call is =
-        step-some (λ u. Caused host Ending (call ∷ calls) (mend_confirmed m holds (Through u))) (is_held call.answer.reply) tt
-        (λ seen. mend-draws holds (call ∷ calls) seen)
+        step-some (λ u. Caused host S Ending (call ∷ calls) (mend_confirmed m holds (Through u))) (is_held call.answer.reply) tt
+        (λ seen known. mend-draws holds (call ∷ calls) seen known)
 
-    off : (call : Call) → IsReply mend_confirm call → mend_confirming.step tt mend_confirm call.answer.reply ≡ None → Caused host Ending (call ∷ calls) (mend_confirmed m holds (Stopped tt mend_confirm call.answer.reply))
+    off : (call : Call) → IsReply mend_confirm call → mend_confirming.step tt mend_confirm call.answer.reply ≡ None → Caused host S Ending (call ∷ calls) (mend_confirmed m holds (Stopped tt mend_confirm call.answer.reply))
     off call is stop =
         mend-refuses (mend_releases m holds) (mend_why mend_confirm call.answer.reply (causes.Changed row)) (call ∷ calls)
-        (else-stands script host (tasks.Rebuild target) (call ∷ calls) (refusal None None (parity_bay script.n row) call.answer.reply) (causes.Changed row)
-        (refusal-stands script host (tasks.Rebuild target) calls mend_confirm call is None None (mend-floor mend_confirm.request) missed)
-        (λ none. inl (unrefused-plain script host (tasks.Rebuild target) calls mend_confirm call is None None (mend-floor mend_confirm.request) missed none, inl (held-badly script.n row id calls call is (step-none (is_held call.answer.reply) tt stop), granted))))
+        (else-stands script host S (tasks.Rebuild target) (call ∷ calls) (refusal None None (parity_bay script.n row) call.answer.reply) (causes.Changed row)
+        (refusal-stands script host S (tasks.Rebuild target) calls mend_confirm call is None None (mend-floor mend_confirm.request) missed)
+        (λ none. inl (unrefused-plain script host S (tasks.Rebuild target) calls mend_confirm call is None None (mend-floor mend_confirm.request) missed none, inl (held-badly script.n row id calls call is (step-none (is_held call.answer.reply) tt stop), granted))))
 
   -- the claims
   abbrev mend_claim : BayNo → Errand
@@ -175,11 +175,11 @@ module _ (script : Script) (host : HostNo) (target : BayNo) (id : Number) (row :
   hold-none holds (Some hold) e = cc
 
   claim-stopped : (e : Errand) (calls : List Call) (holds : List Hold) (call : Call) → IsMending e → MissingTold None calls → IsReply e call
-      → (mending m).step holds e call.answer.reply ≡ None → Caused host Ending (call ∷ calls) (mend_claimed m (Stopped holds e call.answer.reply))
+      → (mending m).step holds e call.answer.reply ≡ None → Caused host S Ending (call ∷ calls) (mend_claimed m (Stopped holds e call.answer.reply))
   claim-stopped e calls holds call mends missed is stop =
       mend-refuses (mend_releases m (with_hold holds e.bay (grant_of call.answer.reply))) (mend_why e call.answer.reply (causes.Gone e.bay)) (call ∷ calls)
-      (else-stands script host (tasks.Rebuild target) (call ∷ calls) (refusal None None e.bay call.answer.reply) (causes.Gone e.bay)
-      (refusal-stands script host (tasks.Rebuild target) calls e call is None None (mend-floor e.request) missed)
+      (else-stands script host S (tasks.Rebuild target) (call ∷ calls) (refusal None None e.bay call.answer.reply) (causes.Gone e.bay)
+      (refusal-stands script host S (tasks.Rebuild target) calls e call is None None (mend-floor e.request) missed)
       (λ none. gone-told e calls call (bay-asked is, row, id, what-asked is ∙ mends) call.answer.reply refl (mending-takes e mends) is.fit none (hold-none holds (hold_of m e.bay call.answer.reply) stop)))
 
   grant-told : (bay : BayNo) (r : Reply) (hold : Hold) → hold_of m bay r ≡ Some hold → (grant : Grant) × (grant_of r ≡ Some grant)
@@ -200,9 +200,9 @@ module _ (script : Script) (host : HostNo) (target : BayNo) (id : Number) (row :
       (missing-more None calls call (grant-there call g.0 g.1) i.0, inr i.1)
 
   rest-claimed : (bays : List BayNo) (calls : List Call) (holds : List Hold) → Claimed calls
-      → Caused host Ending calls (bind (run (mending m) (claims id row Mend true bays) holds) (mend_claimed m))
+      → Caused host S Ending calls (bind (run (mending m) (claims id row Mend true bays) holds) (mend_claimed m))
   rest-claimed bays calls holds claimed =
-      caused-walk host Ending IsMending (λ cs hs. Claimed cs) (mending m) (mend_claimed m) (λ hs. tt)
+      caused-walk host S Ending IsMending (λ cs hs. Claimed cs) (mending m) (mend_claimed m) (λ hs. tt)
       (λ e cs hs call p i is. hold-kept e cs hs call i (hold_of m e.bay call.answer.reply) refl)
       (λ cs hs i. mend-confirms hs cs i.0 i.1) (λ e cs hs call p i is stop. claim-stopped e cs hs call p i.0 is stop)
       (claims id row Mend true bays) calls holds (mends bays) claimed where
@@ -210,10 +210,10 @@ module _ (script : Script) (host : HostNo) (target : BayNo) (id : Number) (row :
         mends [] = tt
         mends (b ∷ bs) = (refl, mends bs)
 
-  pub mends_caused : Caused host Ending [] (mend_steps m)
+  pub mends_caused : Caused host S Ending [] (mend_steps m)
   mends_caused = (
     tt,
-    λ call is. caused-go host Ending (λ holds. Claimed (call ∷ [])) (call ∷ []) ((mending m).step [] (mend_claim (parity_bay script.n row)) call.answer.reply)
+    λ call is. caused-go host S Ending (λ holds. Claimed (call ∷ [])) (call ∷ []) ((mending m).step [] (mend_claim (parity_bay script.n row)) call.answer.reply)
         (λ holds. run (mending m) (claims id row Mend true (bays_of script.n row (units script.n))) holds) _ (mend_claimed m)
         (granted call is (hold_of m (parity_bay script.n row) call.answer.reply) refl)
         (λ holds i. rest-claimed (bays_of script.n row (units script.n)) (call ∷ []) holds i)
@@ -227,39 +227,39 @@ module _ (script : Script) (host : HostNo) (target : BayNo) (id : Number) (row :
         (missing-more None [] call (grant-there call g.0 g.1) none-missing, inl ((bay-asked is, id, Mend, 0, true, what-asked is), g.0, g.1))
 
 -- Recoveries
-module _ (script : Script) (host : HostNo) (id : Number) (row : RowNo) where
+module _ (script : Script) (host : HostNo) (S : List Call → Number → Type 0) (id : Number) (row : RowNo) where
   abbrev r : Rescue
   r = record { n = script.n; host = host; id = id; row = row }
 
   abbrev Recovers : List Call → Finish → Type 0
-  Recovers = FinishStands script host (tasks.Recover row)
+  Recovers = FinishStands script host S (tasks.Recover row)
 
-  recover-floor : (what : Request) → BehindRightly script host (tasks.Recover row) None what
-  recover-floor what = never-behind script host (tasks.Recover row) (λ plain. plain) what
+  recover-floor : (what : Request) → BehindRightly script host S (tasks.Recover row) None what
+  recover-floor what = never-behind script host S (tasks.Recover row) (λ plain. plain) what
 
-  recovered : (line : Row) (n : Number) (lost : Option ℕ) (calls : List Call) → Caused host Recovers calls (recover_put r line n lost (Through tt))
+  recovered : (line : Row) (n : Number) (lost : Option ℕ) (calls : List Call) → Caused host S Recovers calls (recover_put r line n lost (Through tt))
   recovered line n lost calls =
-      caused-walk host Recovers (λ e. Unit {0}) (λ cs u. Unit {0}) (closing n lost) (end_as (ends.Recovered n true lost)) (λ u. refl)
+      caused-walk host S Recovers (λ e. Unit {0}) (λ cs u. Unit {0}) (closing n lost) (end_as (ends.Recovered n true lost)) (λ u. refl)
       (λ e cs u call p i is. tt) (λ cs u i. tt) (λ e cs u call p i is stop. tt) (give_back r (granted_data r line)) calls tt (any-errands (give_back r (granted_data r line))) tt
 
-  recover-refuses : (line : Row) (cause : Cause) (calls : List Call) → Stands script host (tasks.Recover row) calls cause → Caused host Recovers calls (recover_refused r line cause)
-  recover-refuses line cause calls s = refuses script host (tasks.Recover row) (give_back r (unseized_data r line ++ unseized_parity r line.parity)) cause calls s
+  recover-refuses : (line : Row) (cause : Cause) (calls : List Call) → Stands script host S (tasks.Recover row) calls cause → Caused host S Recovers calls (recover_refused r line cause)
+  recover-refuses line cause calls s = refuses script host S (tasks.Recover row) (give_back r (unseized_data r line ++ unseized_parity r line.parity)) cause calls s
 
-  recover-puts : (line : Row) (n : Number) (v : Verdict) (calls : List Call) → Caused host Recovers calls (recover_by r line n v)
+  recover-puts : (line : Row) (n : Number) (v : Verdict) (calls : List Call) → Caused host S Recovers calls (recover_by r line n v)
   recover-puts line n Leaves calls =
-      releases-caused script host (tasks.Recover row) (ends.Recovered n true None) (λ cs call i. tt) (give_back r (granted_data r line ++ parity_granted script.n row line.parity)) calls tt
+      releases-caused script host S (tasks.Recover row) (ends.Recovered n true None) (λ cs call i. tt) (give_back r (granted_data r line ++ parity_granted script.n row line.parity)) calls tt
   recover-puts line n (Sums lost) calls =
-      caused-one host Recovers (recover_putting r lost) (recover_put r line n lost) (put id row n (recovered_parity line lost) (parity_bay script.n row)) calls tt tt
-      (λ call is. passed (λ u. Caused host Recovers (call ∷ calls) (recover_put r line n lost (Through u)))
+      caused-one host S Recovers (recover_putting r lost) (recover_put r line n lost) (put id row n (recovered_parity line lost) (parity_bay script.n row)) calls tt tt
+      (λ call is. passed (λ u. Caused host S Recovers (call ∷ calls) (recover_put r line n lost (Through u)))
       (on_done tt (put id row n (recovered_parity line lost) (parity_bay script.n row)) call.answer.reply) (λ u. recovered line n lost (call ∷ calls)))
-      (λ call is stop. refuses script host (tasks.Recover row) (give_back r (unseized_data r line))
+      (λ call is stop. refuses script host S (tasks.Recover row) (give_back r (unseized_data r line))
       (put_cause row (put id row n (recovered_parity line lost) (parity_bay script.n row)) call.answer.reply) (call ∷ calls)
-      (put-stopped script host (tasks.Recover row) row id n (recovered_parity line lost) (parity_bay script.n row) calls call is stop))
+      (put-stopped script host S (tasks.Recover row) row id n (recovered_parity line lost) (parity_bay script.n row) calls call is stop))
 
-  recover-draws : (line : Row) (calls : List Call) (seen : Number) → Caused host Recovers calls (recover_drawn r line (draw host seen))
-  recover-draws line calls seen =
-      caused-draw host Recovers calls (recover_drawn r line) (λ n. recover-puts line n (verdict r line) calls)
-      (λ spent none. recover-refuses line (causes.Spent spent.seen) calls none) seen
+  recover-draws : (line : Row) (calls : List Call) (seen : Number) → (IsNone (next_number host seen) → S calls seen) → Caused host S Recovers calls (recover_drawn r line (draw host seen))
+  recover-draws line calls seen known =
+      caused-draw host S Recovers calls (recover_drawn r line) (λ n. recover-puts line n (verdict r line) calls)
+      (λ spent none. recover-refuses line (causes.Spent spent.seen) calls none) seen known
 
   -- the confirm of the parity
   abbrev recover_confirm : Errand
@@ -269,7 +269,7 @@ module _ (script : Script) (host : HostNo) (id : Number) (row : RowNo) where
   not-missing reply floor same e = let h : is_missing reply ≡ true = ap is_missing same in cc
 
   changed-told : (calls : List Call) (call : Call) → IsReply recover_confirm call → (HasOwnCause script (tasks.Recover row) calls call → ⊥) → (o : Option Grant) → ParityTold script.n row o calls → is_as_before o call.answer.reply ≡ false
-      → Stands script host (tasks.Recover row) (call ∷ calls) (causes.Changed row)
+      → Stands script host S (tasks.Recover row) (call ∷ calls) (causes.Changed row)
   changed-told calls call is own (Some grant) told e = inl (own, inl (held-badly script.n row id calls call is e, told))
   changed-told calls call is own None told e =
       inl (own, inr (((bay-asked is, id, false, what-asked is), λ miss. not-missing call.answer.reply miss.0 miss.1 e), told))
@@ -278,32 +278,32 @@ module _ (script : Script) (host : HostNo) (id : Number) (row : RowNo) where
   stay-none None b e none = e
   stay-none (Some cause) b e none = cc
 
-  recover-confirms : (calls : List Call) (taken : Taken) → MissingTold taken.missing calls → ParityTold script.n row taken.row.parity calls → Caused host Recovers calls (units_seized r (Through taken))
+  recover-confirms : (calls : List Call) (taken : Taken) → MissingTold taken.missing calls → ParityTold script.n row taken.row.parity calls → Caused host S Recovers calls (units_seized r (Through taken))
   recover-confirms calls taken missed told =
-      caused-one host Recovers (recover_confirming taken) (recover_confirmed r taken) recover_confirm calls tt tt
-      (λ call is. step-some (λ u. Caused host Recovers (call ∷ calls) (recover_confirmed r taken (Through u))) (stays taken (parity_bay script.n row) call.answer.reply) tt
-      (λ seen. recover-draws taken.row (call ∷ calls) seen))
+      caused-one host S Recovers (recover_confirming taken) (recover_confirmed r taken) recover_confirm calls tt tt
+      (λ call is. step-some (λ u. Caused host S Recovers (call ∷ calls) (recover_confirmed r taken (Through u))) (stays taken (parity_bay script.n row) call.answer.reply) tt
+      (λ seen known. recover-draws taken.row (call ∷ calls) seen known))
       (λ call is stop. recover-refuses taken.row _ (call ∷ calls)
-      (else-stands script host (tasks.Recover row) (call ∷ calls) (refusal None taken.missing (parity_bay script.n row) call.answer.reply) (causes.Changed row)
-      (refusal-stands script host (tasks.Recover row) calls recover_confirm call is None taken.missing (recover-floor recover_confirm.request) missed)
+      (else-stands script host S (tasks.Recover row) (call ∷ calls) (refusal None taken.missing (parity_bay script.n row) call.answer.reply) (causes.Changed row)
+      (refusal-stands script host S (tasks.Recover row) calls recover_confirm call is None taken.missing (recover-floor recover_confirm.request) missed)
       (λ none. changed-told calls call is
-      (unrefused-plain script host (tasks.Recover row) calls recover_confirm call is None taken.missing (recover-floor recover_confirm.request) missed none) taken.row.parity told
+      (unrefused-plain script host S (tasks.Recover row) calls recover_confirm call is None taken.missing (recover-floor recover_confirm.request) missed none) taken.row.parity told
       (stay-none (refusal None taken.missing (parity_bay script.n row) call.answer.reply) (is_as_before taken.row.parity call.answer.reply)
       (step-none (stays taken (parity_bay script.n row) call.answer.reply) tt stop) none))))
 
-  seizes : (calls : List Call) (taken : Taken) → MissingTold taken.missing calls → ParityTold script.n row taken.row.parity calls → Caused host Recovers calls (seize_units r taken)
+  seizes : (calls : List Call) (taken : Taken) → MissingTold taken.missing calls → ParityTold script.n row taken.row.parity calls → Caused host S Recovers calls (seize_units r taken)
   seizes calls taken missed told =
-      caused-takes script host (tasks.Recover row) None (units_seized r) (λ cs t e reply s. recover-refuses t.row (why None t e reply) cs s)
+      caused-takes script host S (tasks.Recover row) None (units_seized r) (λ cs t e reply s. recover-refuses t.row (why None t e reply) cs s)
       with_wanted (λ cs t. ParityTold script.n row t.row.parity cs) (λ cs t call bay o g told. more cs t call bay o told) (λ cs t missed told. recover-confirms cs t missed told)
       (claims id row Seize true (bays_of script.n row (units script.n))) calls taken
-      (claims-take script host (tasks.Recover row) None id row Seize true (recover-floor (Claim row id Seize 0 true)) (bays_of script.n row (units script.n)))
+      (claims-take script host S (tasks.Recover row) None id row Seize true (recover-floor (Claim row id Seize 0 true)) (bays_of script.n row (units script.n)))
       missed told where
         more : (cs : List Call) (t : Taken) (call : Call) (bay : BayNo) (o : Option Grant) → ParityTold script.n row t.row.parity cs → ParityTold script.n row (with_grant with_wanted t bay o).row.parity (call ∷ cs)
         more cs t call bay (Some grant) told = parity-more script.n row t.row.parity cs call told
         more cs t call bay None told = parity-more script.n row t.row.parity cs call told
 
   lacking : (calls : List Call) (taken : Taken) → Happened (IsLacking script.n row) calls → MissingTold taken.missing calls → ParityTold script.n row taken.row.parity calls → (b : Bool) → (host.0 == 0) ≡ b
-      → Caused host Recovers calls (if b then seize_units r taken else recover_refused r taken.row (causes.Gone (parity_bay script.n row)))
+      → Caused host S Recovers calls (if b then seize_units r taken else recover_refused r taken.row (causes.Gone (parity_bay script.n row)))
   lacking calls taken gone missed told true e = seizes calls taken missed told
   lacking calls taken gone missed told false e = recover-refuses taken.row (causes.Gone (parity_bay script.n row)) calls (other, refl, gone) where
     other : host.0 ≡ 0 → ⊥
@@ -313,11 +313,11 @@ module _ (script : Script) (host : HostNo) (id : Number) (row : RowNo) where
   first_taken = begun (whole_part r) no_rows
 
   parity-seized : (call : Call) (o : Option Grant) → MissingTold (with_grant with_parity first_taken (parity_bay script.n row) o).missing (call ∷ []) → ParityTold script.n row o (call ∷ [])
-      → Caused host Recovers (call ∷ []) (parity_seized r (Through (with_grant with_parity first_taken (parity_bay script.n row) o)))
+      → Caused host S Recovers (call ∷ []) (parity_seized r (Through (with_grant with_parity first_taken (parity_bay script.n row) o)))
   parity-seized call (Some grant) missed told = seizes (call ∷ []) (with_grant with_parity first_taken (parity_bay script.n row) (Some grant)) missed told
   parity-seized call None missed told = lacking (call ∷ []) (with_grant with_parity first_taken (parity_bay script.n row) None) told missed told (host.0 == 0) refl
 
-  pub recoveries_caused : Caused host Recovers [] (recover_steps r)
+  pub recoveries_caused : Caused host S Recovers [] (recover_steps r)
   recoveries_caused =
-      caused-parity script host (tasks.Recover row) None (parity_seized r) (λ cs t e reply s. recover-refuses t.row (why None t e reply) cs s)
+      caused-parity script host S (tasks.Recover row) None (parity_seized r) (λ cs t e reply s. recover-refuses t.row (why None t e reply) cs s)
       row id Seize 0 true [] first_taken (recover-floor (Claim row id Seize 0 true)) none-missing parity-seized

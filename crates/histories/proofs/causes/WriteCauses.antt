@@ -1,5 +1,6 @@
 -- The causes of writes.
 use Rattle.std.proofs.Common.{◌≡◌, is_some, inl, inr, refl, sym, ap, subst, ◌∙◌, ℕ, ◌==◌, Bool, true, false, if◌then◌else◌, List, [], ◌∷◌, ◌++◌, Option, Some, None, IfSome, option_map, map, zip}
+use Rattle.std.specs.Prelude.{IsNone}
 use Rattle.std.specs.List.{AllByRecursion}
 use Rattle.raid_base.specs.declared.numbers.BayNo.{BayNo}
 use Rattle.raid_base.specs.declared.numbers.HostNo.{HostNo}
@@ -24,7 +25,7 @@ use Rattle.raid_base.specs.declared.jobs.Plan.TheVariants.{Full, Small, Reconstr
 use Rattle.raid_base.specs.declared.jobs.RowPart.{RowPart}
 use Rattle.raid_base.specs.declared.jobs.Task.{Task}
 use Rattle.raid_base.specs.Fits.{fits, fits_put}
-use Rattle.raid_base.specs.Numbers.{draw}
+use Rattle.raid_base.specs.Numbers.{next_number, draw}
 use Rattle.raid_base.specs.Replies.{grant_of, held_of, put_end}
 use Rattle.raid_base.specs.Steps.{Steps, bind, run, Through}
 use Rattle.stripe_layout.specs.Placement.{parity_bay, bays_of, units_in, units_out}
@@ -121,21 +122,21 @@ not-missing row r floor same e =
     let h : confirmed_row row (replies.Missing floor) None ≡ None = subst (λ (x : Reply). confirmed_row row x None ≡ None) same e in
     some-none h
 
-module _ (script : Script) (host : HostNo) (task : Task) (plain : IsReadOrWrite task) (id : Number) (parts : List RowPart) (blocks : List (List ℕ)) where
+module _ (script : Script) (host : HostNo) (S : List Call → Number → Type 0) (task : Task) (plain : IsReadOrWrite task) (id : Number) (parts : List RowPart) (blocks : List (List ℕ)) where
   abbrev a : Access
   a = access script id parts blocks
 
   abbrev Ending : List Call → Finish → Type 0
-  Ending = FinishStands script host task
+  Ending = FinishStands script host S task
 
   abbrev CauseStands : List Call → Cause → Type 0
-  CauseStands = Stands script host task
+  CauseStands = Stands script host S task
 
   abbrev least : Option Number
   least = behind_from script.mode id
 
-  rightly : (what : Request) → id_of what ≡ Some id → BehindRightly script host task least what
-  rightly what of = behind-rightly script host task script.mode refl plain id what of
+  rightly : (what : Request) → id_of what ≡ Some id → BehindRightly script host S task least what
+  rightly what of = behind-rightly script host S task script.mode refl plain id what of
 
   -- the end by the troubles
   one-told : (calls : List Call) (made : List ℕ) (t : Trouble) → TroubleTold calls t → IfSome (trouble_cause a made t) (CauseStands calls)
@@ -153,20 +154,20 @@ module _ (script : Script) (host : HostNo) (task : Task) (plain : IsReadOrWrite 
   first-told calls made [] h = tt
   first-told calls made (t ∷ ts) h = either-told calls (trouble_cause a made t) (first_cause a made ts) (one-told calls made t h.0) (first-told calls made ts h.1)
 
-  written-stands : (calls : List Call) (n : Number) (made : List ℕ) (o : Option Cause) → IfSome o (CauseStands calls) → EndStands script host task calls (written_or n made o)
+  written-stands : (calls : List Call) (n : Number) (made : List ℕ) (o : Option Cause) → IfSome o (CauseStands calls) → EndStands script host S task calls (written_or n made o)
   written-stands calls n made None h = tt
   written-stands calls n made (Some cause) h = h
 
-  lasts : (n : Number) (rows : List Row) (calls : List Call) (puts : Puts) → PutsTold calls puts → Caused host Ending calls (write_last a n rows puts)
+  lasts : (n : Number) (rows : List Row) (calls : List Call) (puts : Puts) → PutsTold calls puts → Caused host S Ending calls (write_last a n rows puts)
   lasts n rows calls puts told =
-      caused-walk host Ending (λ e. Unit {0}) PutsTold (finishing a n) (write_end a n) (parted n)
+      caused-walk host S Ending (λ e. Unit {0}) PutsTold (finishing a n) (write_end a n) (parted n)
       (λ e cs p call u h is. puts-more cs call p h) (λ cs p h. written-stands cs n p.made (first_cause a p.made p.troubles) (first-told cs p.made p.troubles h))
       (λ e cs p call u h is stop. absurd (some-none stop)) (reader_releases script.mode a rows) calls puts (any-errands (reader_releases script.mode a rows)) told
 
   -- a row's puts
-  module _ (n : Number) (rest : Puts → Steps Finish) (rest_caused : (calls : List Call) (puts : Puts) → PutsTold calls puts → Caused host Ending calls (rest puts)) (row : Row) where
+  module _ (n : Number) (rest : Puts → Steps Finish) (rest_caused : (calls : List Call) (puts : Puts) → PutsTold calls puts → Caused host S Ending calls (rest puts)) (row : Row) where
     troubled : (e : Errand) (calls : List Call) (puts : Puts) (call : Call) → IsPutFor row.part.row e → PutsTold calls puts → IsReply e call → (call.answer.reply ≡ replies.Done → ⊥)
-        → Caused host Ending (call ∷ calls) (rest (with_trouble puts (trouble_of row e call.answer.reply)))
+        → Caused host S Ending (call ∷ calls) (rest (with_trouble puts (trouble_of row e call.answer.reply)))
     troubled e calls puts call p told is undone =
         rest_caused (call ∷ calls) (with_trouble puts (trouble_of row e call.answer.reply))
         (one-trouble (call ∷ calls) puts (trouble_of row e call.answer.reply) (puts-more calls call puts told) (trouble-told row e calls call p is undone))
@@ -189,10 +190,10 @@ module _ (script : Script) (host : HostNo) (task : Task) (plain : IsReadOrWrite 
     parity-undone puts r stop done =
         some-none (subst (λ (x : Reply). parity_put_by a row puts (put_end x) ≡ None) done stop)
 
-    puts-parity : (calls : List Call) (puts : Puts) → PutsTold calls puts → (grant : Option Grant) → Caused host Ending calls (put_parity a n row rest puts grant)
+    puts-parity : (calls : List Call) (puts : Puts) → PutsTold calls puts → (grant : Option Grant) → Caused host S Ending calls (put_parity a n row rest puts grant)
     puts-parity calls puts told None = rest_caused calls puts told
     puts-parity calls puts told (Some grant) =
-        caused-walk host Ending (IsPutFor row.part.row) PutsTold (putting_parity a n row) (parity_done row rest) (parted n)
+        caused-walk host S Ending (IsPutFor row.part.row) PutsTold (putting_parity a n row) (parity_done row rest) (parted n)
         (λ e cs p call u h is. parity-kept cs p call call.answer.reply h) (λ cs p h. rest_caused cs p h)
         (λ e cs p call u h is stop. troubled e cs p call u h is (parity-undone p call.answer.reply stop))
         (parity_put a n row ∷ []) calls puts ((id, n, new_parity a row, refl), tt) told
@@ -224,26 +225,26 @@ module _ (script : Script) (host : HostNo) (task : Task) (plain : IsReadOrWrite 
     are-puts (u ∷ us) = ((id, n, _, refl), are-puts us)
 
     puts-data : (calls : List Call) (puts : Puts) → PutsTold calls puts
-        → Caused host Ending calls (bind (run (putting_data a n row) (data_puts a n row) puts) (data_done a n row rest))
+        → Caused host S Ending calls (bind (run (putting_data a n row) (data_puts a n row) puts) (data_done a n row rest))
     puts-data calls puts told =
-        caused-walk host Ending (IsPutFor row.part.row) PutsTold (putting_data a n row) (data_done a n row rest) (parted n)
+        caused-walk host S Ending (IsPutFor row.part.row) PutsTold (putting_data a n row) (data_done a n row rest) (parted n)
         (λ e cs p call u h is. data-kept e cs p call (unit_of a row e) u is h call.answer.reply refl) (λ cs p h. puts-parity cs p h row.parity)
         (λ e cs p call u h is stop. troubled e cs p call u h is (data-undone p (unit_of a row e) call.answer.reply stop))
         (data_puts a n row) calls puts (are-puts (granted_of (zip (wanted_units a row) row.wanted))) told
 
-  puts-rows : (n : Number) (all rows : List Row) (calls : List Call) (puts : Puts) → PutsTold calls puts → Caused host Ending calls (put_rows a n (write_last a n all) rows puts)
+  puts-rows : (n : Number) (all rows : List Row) (calls : List Call) (puts : Puts) → PutsTold calls puts → Caused host S Ending calls (put_rows a n (write_last a n all) rows puts)
   puts-rows n all [] calls puts told = lasts n all calls puts told
   puts-rows n all (row ∷ rows) calls puts told =
       puts-data n (put_rows a n (write_last a n all) rows) (puts-rows n all rows) row calls (at_row puts) told
 
-  draws : (rows : List Row) (calls : List Call) (seen : Number) → Caused host Ending calls (write_drawn a rows (draw host seen))
-  draws rows calls seen =
-      caused-draw host Ending calls (write_drawn a rows) (λ n. puts-rows n rows rows calls no_puts tt)
-      (λ spent none. refuses script host task (write_releases a rows) (causes.Spent spent.seen) calls none) seen
+  draws : (rows : List Row) (calls : List Call) (seen : Number) → (IsNone (next_number host seen) → S calls seen) → Caused host S Ending calls (write_drawn a rows (draw host seen))
+  draws rows calls seen known =
+      caused-draw host S Ending calls (write_drawn a rows) (λ n. puts-rows n rows rows calls no_puts tt)
+      (λ spent none. refuses script host S task (write_releases a rows) (causes.Spent spent.seen) calls none) seen known
 
-  numbered : (mode : Mode) (rows : List Row) (calls : List Call) → Caused host Ending calls (write_numbered mode a rows)
+  numbered : (mode : Mode) (rows : List Row) (calls : List Call) → Caused host S Ending calls (write_numbered mode a rows)
   numbered Order rows calls = puts-rows id rows rows calls no_puts tt
-  numbered Lock rows calls = λ seen. draws rows calls seen
+  numbered Lock rows calls = λ seen known. draws rows calls seen known
 
   -- Confirms. The parity of each row was claimed in these calls, and where another unit lacks some slot was missing
   abbrev OthersTold : List Call → Row → Type 0
@@ -268,10 +269,10 @@ module _ (script : Script) (host : HostNo) (task : Task) (plain : IsReadOrWrite 
   confirm-stopped : (row : Row) (calls : List Call) (call : Call) (done : Rows) → IsReply (row_confirm a row) call → MissingTold done.missing calls → RowTold calls row
       → (confirming a row).step done (row_confirm a row) call.answer.reply ≡ None → CauseStands (call ∷ calls) (confirm_cause a row done (row_confirm a row) call.answer.reply)
   confirm-stopped row calls call done is missed told stop =
-      else-stands script host task (call ∷ calls) (refusal least done.missing (parity_bay script.n row.part.row) call.answer.reply) (causes.Changed row.part.row)
-      (refusal-stands script host task calls (row_confirm a row) call is least done.missing (rightly (row_confirm a row).request refl) missed)
+      else-stands script host S task (call ∷ calls) (refusal least done.missing (parity_bay script.n row.part.row) call.answer.reply) (causes.Changed row.part.row)
+      (refusal-stands script host S task calls (row_confirm a row) call is least done.missing (rightly (row_confirm a row).request refl) missed)
       (λ none. changed-told row calls call is
-      (unrefused-plain script host task calls (row_confirm a row) call is least done.missing (rightly (row_confirm a row).request refl) missed none) row.parity told.0 told.1
+      (unrefused-plain script host S task calls (row_confirm a row) call is least done.missing (rightly (row_confirm a row).request refl) missed none) row.parity told.0 told.1
       (unrefused (refusal least done.missing (parity_bay script.n row.part.row) call.answer.reply) stop none)) where
         no-row : (o : Option Row) → option_map (λ (r : Row). record done { rows = done.rows ++ r ∷ [] }) o ≡ None → o ≡ None
         no-row None e = refl
@@ -283,10 +284,10 @@ module _ (script : Script) (host : HostNo) (task : Task) (plain : IsReadOrWrite 
         unrefused (Some cause) e none = cc
 
   module _ (rows left : List Row)
-      (goes_on : (calls : List Call) (done : Rows) → MissingTold done.missing calls → AllByRecursion (RowTold calls) left → Caused host Ending calls (confirm_rows a rows left done)) where
+      (goes_on : (calls : List Call) (done : Rows) → MissingTold done.missing calls → AllByRecursion (RowTold calls) left → Caused host S Ending calls (confirm_rows a rows left done)) where
     confirm-passed : (row : Row) (calls : List Call) (done : Rows) (call : Call) → IsReply (row_confirm a row) call → MissingTold done.missing calls → RowTold calls row → AllByRecursion (RowTold calls) left
         → (o : Option Row) → row_or_change least done.missing (parity_bay script.n row.part.row) row call.answer.reply ≡ o
-        → IfSome (option_map (λ (r : Row). record done { rows = done.rows ++ r ∷ [] }) o) (λ d. Caused host Ending (call ∷ calls) (confirm_rows a rows left d))
+        → IfSome (option_map (λ (r : Row). record done { rows = done.rows ++ r ∷ [] }) o) (λ d. Caused host S Ending (call ∷ calls) (confirm_rows a rows left d))
     confirm-passed row calls done call is missed own told None e = tt
     confirm-passed row calls done call is missed own told (Some r) e =
         goes_on (call ∷ calls) (record done { rows = done.rows ++ r ∷ [] }) (still row.parity refl own.0) (rows-more calls call left told) where
@@ -305,14 +306,14 @@ module _ (script : Script) (host : HostNo) (task : Task) (plain : IsReadOrWrite 
                 some-none (sym passed ∙ unheld miss.0 (refusal least done.missing (parity_bay script.n row.part.row) (replies.Missing miss.0)))
 
     confirms-row : (row : Row) (calls : List Call) (done : Rows) → MissingTold done.missing calls → RowTold calls row → AllByRecursion (RowTold calls) left
-        → Caused host Ending calls (confirm_rows a rows (row ∷ left) done)
+        → Caused host S Ending calls (confirm_rows a rows (row ∷ left) done)
     confirms-row row calls done missed told others =
-        caused-one host Ending (confirming a row) (row_confirmed a rows row (confirm_rows a rows left)) (row_confirm a row) calls done tt
+        caused-one host S Ending (confirming a row) (row_confirmed a rows row (confirm_rows a rows left)) (row_confirm a row) calls done tt
         (λ call is. confirm-passed row calls done call is missed told others (row_or_change least done.missing (parity_bay script.n row.part.row) row call.answer.reply) refl)
-        (λ call is stop. refuses script host task (write_releases a rows) (confirm_cause a row done (row_confirm a row) call.answer.reply) (call ∷ calls)
+        (λ call is stop. refuses script host S task (write_releases a rows) (confirm_cause a row done (row_confirm a row) call.answer.reply) (call ∷ calls)
         (confirm-stopped row calls call done is missed told stop))
 
-  confirms : (rows left : List Row) (calls : List Call) (done : Rows) → MissingTold done.missing calls → AllByRecursion (RowTold calls) left → Caused host Ending calls (confirm_rows a rows left done)
+  confirms : (rows left : List Row) (calls : List Call) (done : Rows) → MissingTold done.missing calls → AllByRecursion (RowTold calls) left → Caused host S Ending calls (confirm_rows a rows left done)
   confirms rows [] calls done missed told = numbered script.mode done.rows calls
   confirms rows (row ∷ left) calls done missed told = confirms-row rows left (confirms rows left) row calls done missed told.0 told.1
 
@@ -341,26 +342,26 @@ module _ (script : Script) (host : HostNo) (task : Task) (plain : IsReadOrWrite 
   told-rows : (calls : List Call) (taken : Taken) → Told calls taken → AllByRecursion (RowTold calls) (row_ended taken).rows
   told-rows calls taken t = all-append (RowTold calls) taken.before (taken.row ∷ []) t.before (t.row, tt)
 
-  stops : (calls : List Call) (taken : Taken) (e : Errand) (r : Reply) → CauseStands calls (why least taken e r) → Caused host Ending calls (write_stopped a taken e r)
-  stops calls taken e r s = refuses script host task (write_releases a (taken.before ++ taken.row ∷ [])) (why least taken e r) calls s
+  stops : (calls : List Call) (taken : Taken) (e : Errand) (r : Reply) → CauseStands calls (why least taken e r) → Caused host S Ending calls (write_stopped a taken e r)
+  stops calls taken e r s = refuses script host S task (write_releases a (taken.before ++ taken.row ∷ [])) (why least taken e r) calls s
 
-  module _ (rest : Rows → Steps Finish) (rest_caused : (calls : List Call) (done : Rows) → MissingTold done.missing calls → AllByRecursion (RowTold calls) done.rows → Caused host Ending calls (rest done)) where
-    row-done : (calls : List Call) (taken : Taken) → MissingTold taken.missing calls → Told calls taken → Caused host Ending calls (rest (row_ended taken))
+  module _ (rest : Rows → Steps Finish) (rest_caused : (calls : List Call) (done : Rows) → MissingTold done.missing calls → AllByRecursion (RowTold calls) done.rows → Caused host S Ending calls (rest done)) where
+    row-done : (calls : List Call) (taken : Taken) → MissingTold taken.missing calls → Told calls taken → Caused host S Ending calls (rest (row_ended taken))
     row-done calls taken missed t = rest_caused calls (row_ended taken) missed (told-rows calls taken t)
 
-    claims-wanted : (want : Bool) (calls : List Call) (taken : Taken) → MissingTold taken.missing calls → Told calls taken → Caused host Ending calls (claim_wanted a rest want taken)
+    claims-wanted : (want : Bool) (calls : List Call) (taken : Taken) → MissingTold taken.missing calls → Told calls taken → Caused host S Ending calls (claim_wanted a rest want taken)
     claims-wanted want calls taken missed t =
-        caused-takes script host task least (row_claimed a rest) stops with_wanted Told told-wanted row-done (wanted_claims a want taken.row.part) calls taken
-        (claims-take script host task least id taken.row.part.row Plain want (rightly (Claim taken.row.part.row id Plain 0 want) refl) (bays_of script.n taken.row.part.row (units_in script.n taken.row.part.mask)))
+        caused-takes script host S task least (row_claimed a rest) stops with_wanted Told told-wanted row-done (wanted_claims a want taken.row.part) calls taken
+        (claims-take script host S task least id taken.row.part.row Plain want (rightly (Claim taken.row.part.row id Plain 0 want) refl) (bays_of script.n taken.row.part.row (units_in script.n taken.row.part.mask)))
         missed t
 
-    others-take : (part : RowPart) → AllByRecursion (Takes script host task least) (other_shares a part)
-    others-take part = shares-take script host task least id part.row (rightly (Share part.row id true) refl) (bays_of script.n part.row (units_out script.n part.mask))
+    others-take : (part : RowPart) → AllByRecursion (Takes script host S task least) (other_shares a part)
+    others-take part = shares-take script host S task least id part.row (rightly (Share part.row id true) refl) (bays_of script.n part.row (units_out script.n part.mask))
 
-    shares-others : (lacking : Bool) (calls : List Call) (taken : Taken) → MissingTold taken.missing calls → Told calls taken → Caused host Ending calls (share_others a rest taken lacking)
+    shares-others : (lacking : Bool) (calls : List Call) (taken : Taken) → MissingTold taken.missing calls → Told calls taken → Caused host S Ending calls (share_others a rest taken lacking)
     shares-others false calls taken missed t = row-done calls taken missed t
     shares-others true calls taken missed t =
-        caused-takes script host task least (row_claimed a rest) stops with_other Told told-other row-done (other_shares a taken.row.part) calls taken (others-take taken.row.part) missed t
+        caused-takes script host S task least (row_claimed a rest) stops with_other Told told-other row-done (other_shares a taken.row.part) calls taken (others-take taken.row.part) missed t
 
     -- a share of another unit that is missing ends the shares
     gap-of : (missing : Option BayNo) (bay : BayNo) (r : Reply) (o : Option Cause) (g : Option Grant) → IfSome (unless o g) (GrantOrGap missing bay r) → o ≡ None → g ≡ None → GrantOrGap missing bay r None
@@ -370,10 +371,10 @@ module _ (script : Script) (host : HostNo) (task : Task) (plain : IsReadOrWrite 
 
     share-ended : (e : Errand) (calls : List Call) (taken : Taken) (call : Call) → call.bay ≡ e.bay → MissingTold taken.missing calls → Told calls taken
         → (o : Option Cause) → IfSome o (CauseStands (call ∷ calls)) → (o ≡ None → GrantOrGap taken.missing e.bay call.answer.reply None)
-        → Caused host Ending (call ∷ calls) (share_stopped a rest taken e.bay o)
-    share-ended e calls taken call at missed t (Some cause) s gap = refuses script host task (write_releases a (taken.before ++ taken.row ∷ [])) cause (call ∷ calls) s
+        → Caused host S Ending (call ∷ calls) (share_stopped a rest taken e.bay o)
+    share-ended e calls taken call at missed t (Some cause) s gap = refuses script host S task (write_releases a (taken.before ++ taken.row ∷ [])) cause (call ∷ calls) s
     share-ended e calls taken call at missed t None s gap =
-        claims-wanted true (call ∷ calls) (with_grant with_other taken e.bay None) (with-missing script host task with_other taken e.bay calls call at None (gap refl) missed)
+        claims-wanted true (call ∷ calls) (with_grant with_other taken e.bay None) (with-missing script host S task with_other taken e.bay calls call at None (gap refl) missed)
         (told-other calls taken call e.bay None (gap refl) t)
 
     until-kept : (e : Errand) (calls : List Call) (taken : Taken) (call : Call) → MissingTold taken.missing calls → Told calls taken → (o : Option Grant) → grant_of call.answer.reply ≡ o
@@ -386,40 +387,40 @@ module _ (script : Script) (host : HostNo) (task : Task) (plain : IsReadOrWrite 
     no-grant taken bay (Some grant) e = cc
 
     shares-until : (calls : List Call) (taken : Taken) → MissingTold taken.missing calls → Told calls taken
-        → Caused host Ending calls (bind (run (taking_until with_other) (other_shares a taken.row.part) taken) (others_shared a rest))
+        → Caused host S Ending calls (bind (run (taking_until with_other) (other_shares a taken.row.part) taken) (others_shared a rest))
     shares-until calls taken missed t =
-        caused-walk host Ending (Takes script host task least) (λ cs t. MissingTold t.missing cs × Told cs t) (taking_until with_other) (others_shared a rest) (λ t. tt)
+        caused-walk host S Ending (Takes script host S task least) (λ cs t. MissingTold t.missing cs × Told cs t) (taking_until with_other) (others_shared a rest) (λ t. tt)
         (λ e cs t call p i is. until-kept e cs t call i.0 i.1 (grant_of call.answer.reply) refl) (λ cs t i. claims-wanted false cs t i.0 i.1)
         (λ e cs t call p i is stop. share-ended e cs t call (bay-asked is) i.0 i.1 (refusal least t.missing e.bay call.answer.reply)
-        (refusal-stands script host task cs e call is least t.missing p.rightly i.0)
+        (refusal-stands script host S task cs e call is least t.missing p.rightly i.0)
         (λ none. gap-of t.missing e.bay call.answer.reply (refusal least t.missing e.bay call.answer.reply) (grant_of call.answer.reply)
         (take-told e.request p.take least t.missing e.bay call.answer.reply is.fit) none (no-grant t e.bay (grant_of call.answer.reply) stop)))
         (other_shares a taken.row.part) calls taken (others-take taken.row.part) (missed, t)
 
-    claims-row : (calls : List Call) (taken : Taken) → MissingTold taken.missing calls → Told calls taken → (grant : Option Grant) (plan : Plan) → Caused host Ending calls (claim_row a rest taken grant plan)
+    claims-row : (calls : List Call) (taken : Taken) → MissingTold taken.missing calls → Told calls taken → (grant : Option Grant) (plan : Plan) → Caused host S Ending calls (claim_row a rest taken grant plan)
     claims-row calls taken missed t None plan = claims-wanted false calls taken missed t
     claims-row calls taken missed t (Some grant) Full = claims-wanted false calls taken missed t
     claims-row calls taken missed t (Some grant) Small =
-        caused-takes script host task least (small_claimed a rest) stops with_wanted Told told-wanted (λ cs t m k. shares-others (lacks t.row.wanted) cs t m k) (wanted_claims a true taken.row.part) calls taken
-        (claims-take script host task least id taken.row.part.row Plain true (rightly (Claim taken.row.part.row id Plain 0 true) refl) (bays_of script.n taken.row.part.row (units_in script.n taken.row.part.mask)))
+        caused-takes script host S task least (small_claimed a rest) stops with_wanted Told told-wanted (λ cs t m k. shares-others (lacks t.row.wanted) cs t m k) (wanted_claims a true taken.row.part) calls taken
+        (claims-take script host S task least id taken.row.part.row Plain true (rightly (Claim taken.row.part.row id Plain 0 true) refl) (bays_of script.n taken.row.part.row (units_in script.n taken.row.part.mask)))
         missed t
     claims-row calls taken missed t (Some grant) Reconstruct = shares-until calls taken missed t
 
     claims-parity : (part : RowPart) (calls : List Call) (done : Rows) → MissingTold done.missing calls → AllByRecursion (RowTold calls) done.rows
-        → Caused host Ending calls (bind (run (claiming a with_parity) (parity_claim a part ∷ []) (begun part done)) (parity_claimed a rest))
+        → Caused host S Ending calls (bind (run (claiming a with_parity) (parity_claim a part ∷ []) (begun part done)) (parity_claimed a rest))
     claims-parity part calls done missed told =
-        caused-parity script host task least (parity_claimed a rest) stops part.row id Plain part.mask (is_small_plan (plan_of a part)) calls (begun part done)
+        caused-parity script host S task least (parity_claimed a rest) stops part.row id Plain part.mask (is_small_plan (plan_of a part)) calls (begun part done)
         (rightly (Claim part.row id Plain part.mask (is_small_plan (plan_of a part))) refl) missed on where
           on : (call : Call) (o : Option Grant) → MissingTold (with_grant with_parity (begun part done) (parity_bay script.n part.row) o).missing (call ∷ calls) → ParityTold script.n part.row o (call ∷ calls)
-              → Caused host Ending (call ∷ calls) (parity_claimed a rest (Through (with_grant with_parity (begun part done) (parity_bay script.n part.row) o)))
+              → Caused host S Ending (call ∷ calls) (parity_claimed a rest (Through (with_grant with_parity (begun part done) (parity_bay script.n part.row) o)))
           on call (Some grant) m p =
               claims-row (call ∷ calls) (with_grant with_parity (begun part done) (parity_bay script.n part.row) (Some grant)) m (record { before = rows-more calls call done.rows told; row = (p, λ e. cc) }) (Some grant) (plan_of a part)
           on call None m p =
               claims-row (call ∷ calls) (with_grant with_parity (begun part done) (parity_bay script.n part.row) None) m (record { before = rows-more calls call done.rows told; row = (p, λ e. cc) }) None (plan_of a part)
 
-  rows-caused : (left : List RowPart) (calls : List Call) (done : Rows) → MissingTold done.missing calls → AllByRecursion (RowTold calls) done.rows → Caused host Ending calls (claim_rows a left done)
+  rows-caused : (left : List RowPart) (calls : List Call) (done : Rows) → MissingTold done.missing calls → AllByRecursion (RowTold calls) done.rows → Caused host S Ending calls (claim_rows a left done)
   rows-caused [] calls done missed told = confirms done.rows done.rows calls (record done { rows = [] }) missed told
   rows-caused (part ∷ left) calls done missed told = claims-parity (claim_rows a left) (rows-caused left) part calls done missed told
 
-  pub writes_caused : Caused host Ending [] (write_steps a)
+  pub writes_caused : Caused host S Ending [] (write_steps a)
   writes_caused = rows-caused parts [] no_rows none-missing tt

@@ -27,7 +27,7 @@ use Rattle.histories.specs.Calls.{Happened, HappenedAfter, id_of, IsClaim, Answe
 use Rattle.histories.specs.Progress.{is_spent}
 use Rattle.histories.specs.Causes.{IsFloorFrom, IsReadOrWrite, IsMissingAt, IsLackingAt, IsGone, is_held_well, IsFound, IsGranted, IsLacking, IsReleaseIn, IsPutIn}
 use Rattle.histories.specs.Completeness.{missing_in, is_unnoted, is_undue, IsDue, MeetsNone, AreUnrefused, MeetNoRefusal, PlainCallsAreUnrefused}
-use Rattle.histories.proofs.causes.CauseLemmas.{IsHeldBadlyAfter, HasChanged, Stands}
+use Rattle.histories.proofs.causes.CauseLemmas.{IsHeldBadlyAfter, HasChanged, Stands, AnySeen}
 
 -- each reply fits its request
 abbrev pub IsFit : Call → Type 0
@@ -319,7 +319,7 @@ not-changed script task row (c ∷ cs) fit un (inl (own, inr h)) = not-found scr
 not-changed script task row (c ∷ cs) fit un (inr h) = not-changed script task row cs fit.1 un.1 h
 
 module _ (script : Script) (host : HostNo) (task : Task) (plain : IsReadOrWrite task) (calls : List Call) (fit : AreFit calls) (un : AreUnrefused script.mode calls) where
-  pub none-stands : (cause : Cause) → is_spent cause ≡ false → Stands script host task calls cause → ⊥
+  pub none-stands : (cause : Cause) → is_spent cause ≡ false → Stands script host AnySeen task calls cause → ⊥
   none-stands (causes.Busy holder) e s = never script.mode (Answers (replies.Busy holder)) (no-reply script.mode (replies.Busy holder) (λ least missing bay none. cc)) calls fit un s
   none-stands (causes.Late above) e s = never script.mode (Answers (replies.Late above)) (no-reply script.mode (replies.Late above) (λ least missing bay none. cc)) calls fit un s
   none-stands (causes.Young note) e s = never script.mode (Answers (replies.Young note)) (no-reply script.mode (replies.Young note) (λ least missing bay none. cc)) calls fit un s

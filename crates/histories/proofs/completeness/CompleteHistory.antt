@@ -48,7 +48,7 @@ use Rattle.histories.specs.Smallness.{wants_numbers, HasNumbers}
 use Rattle.histories.specs.Completeness.{AreUnrefused, IsDoneBy, is_quit, is_cut, IsDoneUnrefused, UnrefusedJobsAreDone}
 use Rattle.histories.proofs.bounds.BoundsTakes.{before_start}
 use Rattle.histories.proofs.smallness.SmallHistory.{numbers_stay_small}
-use Rattle.histories.proofs.causes.CauseLemmas.{IsReply, IsStopCause, Caused, EndStands, FinishStands}
+use Rattle.histories.proofs.causes.CauseLemmas.{AnySeen, IsReply, IsStopCause, Caused, EndStands, FinishStands}
 use Rattle.histories.proofs.causes.HostCauses.{settled-caused, behind-caused}
 use Rattle.histories.proofs.causes.ReadCauses.{reads_caused}
 use Rattle.histories.proofs.causes.WriteCauses.{writes_caused}
@@ -195,12 +195,12 @@ module _ (script : Script) (host : HostNo) where
 
   -- what the attempt in hand will end with, and that its cause stands then
   pub record Fated (task : Task) (calls : List Call) (steps : Steps Finish) : Type 0 where
-    pub caused : Caused host (FinishStands script host task) calls steps
+    pub caused : Caused host AnySeen (FinishStands script host AnySeen task) calls steps
     pub ends : EndsAs (FinishesAs task) steps
 
   read-fated : (id : Number) (object : Name) (first count : ℕ) (r : Result (List RowPart) PartsFault) → IsOk r → Fated (tasks.Read object first count) [] (read_of script id r)
   read-fated id object first count (Ok parts) ok = record {
-    caused = reads_caused script host (tasks.Read object first count) tt id parts [];
+    caused = reads_caused script host AnySeen (tasks.Read object first count) tt id parts [];
     ends = finishes-as (λ (f : Finish). IsReadEnd (unit_count script.n parts) f.contents f.ended) (FinishesAs (tasks.Read object first count))
         (λ f h. read-ended (unit_count script.n parts) f.contents f.ended h) (read_of script id (Ok parts)) (reads_finish (access script id parts []));
   }
@@ -209,7 +209,7 @@ module _ (script : Script) (host : HostNo) where
   write-fated : (id : Number) (object : Name) (first from count : ℕ) (r : Result (List RowPart) PartsFault) → IsOk r
       → Fated (tasks.Write object first from count) [] (write_of script id (blocks_of script from count) r)
   write-fated id object first from count (Ok parts) ok = record {
-    caused = writes_caused script host (tasks.Write object first from count) tt id parts (blocks_of script from count);
+    caused = writes_caused script host AnySeen (tasks.Write object first from count) tt id parts (blocks_of script from count);
     ends = returns-as script.mode HasLetGo (FinishesAs (tasks.Write object first from count)) (λ held f h. write-ended held f.ended h) []
         (write_of script id (blocks_of script from count) (Ok parts)) (writes_return (access script id parts (blocks_of script from count)));
   }
@@ -225,14 +225,17 @@ module _ (script : Script) (host : HostNo) where
 
   settled-fated : (task : Task) (calls : List Call) (seen : Number) (s : Steps Finish) → Fated task calls s → Fated task calls (settled host seen s).steps
   settled-fated task calls seen s f =
-      record { caused = settled-caused host (FinishStands script host task) calls seen s f.caused; ends = settled-ends (FinishesAs task) host seen s f.ends }
+      record {
+        caused = settled-caused host AnySeen (FinishStands script host AnySeen task) calls seen s (λ d n none same. tt) f.caused;
+        ends = settled-ends (FinishesAs task) host seen s f.ends;
+      }
 
   pub told-fated : (task : Task) (calls : List Call) (seen : Number) (steps : Steps Finish) (call : Call) → IsFit call → next_errand steps ≡ Some (errand_of call)
       → Fated task calls steps → Fated task (call ∷ calls) (told host (record { seen = seen; steps = steps }) call.answer.reply).steps
   told-fated task calls seen steps call fit asked f =
       settled-fated task (call ∷ calls) (sees seen call.answer.reply) (behind steps call.answer.reply)
       (record {
-        caused = behind-caused host (FinishStands script host task) calls call steps f.caused (λ e next. answers e (the-same e next)) asked;
+        caused = behind-caused host AnySeen (FinishStands script host AnySeen task) calls call steps f.caused (λ e next. answers e (the-same e next)) asked;
         ends = behind-ends (FinishesAs task) steps call.answer.reply f.ends;
       }) where
         the-same : (e : Errand) → next_errand steps ≡ Some e → e ≡ errand_of call
@@ -243,7 +246,7 @@ module _ (script : Script) (host : HostNo) where
 
   -- how it ends where no reply refused it
   pub done-by : (task : Task) → IsReadOrWrite task → (calls : List Call) → AreFit calls → AreUnrefused script.mode calls → (tries : ℕ) (e : Ended)
-      → EndStands script host task calls e → IsEnded task e → wants_numbers (job_end tries e) ≡ false → IsDoneBy task (job_end tries e)
+      → EndStands script host AnySeen task calls e → IsEnded task e → wants_numbers (job_end tries e) ≡ false → IsDoneBy task (job_end tries e)
   done-by (tasks.Read object first count) plain calls fit good tries (ends.Read n) s h numbers = tt
   done-by (tasks.Read object first count) plain calls fit good tries (ends.Wrote n) s h numbers = absurd h
   done-by (tasks.Read object first count) plain calls fit good tries (ends.Part n made cause) s h numbers = absurd h
@@ -409,7 +412,7 @@ module _ (script : Script) (host : HostNo) where
 
     -- how it ends
     abbrev DoesTask : Ended → Type 0
-    DoesTask e = IsReadOrWrite job.task → IsOk (task_parts script job.task) → EndStands script host job.task p.calls e × IsEnded job.task e
+    DoesTask e = IsReadOrWrite job.task → IsOk (task_parts script job.task) → EndStands script host AnySeen job.task p.calls e × IsEnded job.task e
 
     due-done : (e : Ended) → DoesTask e → Due p.jobs (job_end p.tries e) p.asked p.calls
     due-done e does =

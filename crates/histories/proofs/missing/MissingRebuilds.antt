@@ -170,14 +170,14 @@ task-gone script host bay calls (tasks.Fit at) rebuild finds gone = rebuild
 abbrev MeetsNoGone : Ending → Type 0
 MeetsNoGone e = IsRebuild e.job.task → (bay : BayNo) (tries : ℕ) → e.ended ≢ job_ends.Gave tries (causes.Gone bay)
 
-all-meet : (script : Script) (host : HostNo) (es : List Ending) → AllByRecursion (IsKept script host TaskFinds finds-bare) es → AllByRecursion (λ (e : Ending). MeetsCause script host e e.ended) es →
+all-meet : (script : Script) (history : List Call) (host : HostNo) (es : List Ending) → AllByRecursion (IsKept script host TaskFinds finds-bare) es → AllByRecursion (λ (e : Ending). MeetsCause script history host e e.ended) es →
     AllByRecursion MeetsNoGone es
-all-meet script host [] finds met = tt
-all-meet script host (e ∷ es) finds met = (
-  λ rebuild bay tries ended. task-gone script host bay e.calls e.job.task rebuild finds.0 (subst (λ (x : JobEnd). MeetsCause script host e x) ended met.0).0,
-  all-meet script host es finds.1 met.1,
+all-meet script history host [] finds met = tt
+all-meet script history host (e ∷ es) finds met = (
+  λ rebuild bay tries ended. task-gone script host bay e.calls e.job.task rebuild finds.0 (subst (λ (x : JobEnd). MeetsCause script history host e x) ended met.0).0,
+  all-meet script history host es finds.1 met.1,
 )
 
 pub rebuilds_meet_no_gone : RebuildsMeetNoGone
 rebuilds_meet_no_gone script history is along host =
-    all-meet script host (endings_at script history host) (finds-kept script is history along host).before (causes_are_met script history is along host)
+    all-meet script history host (endings_at script history host) (finds-kept script is history along host).before (causes_are_met script history is along host)
