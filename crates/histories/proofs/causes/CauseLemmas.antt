@@ -30,7 +30,7 @@ use Rattle.raid_base.specs.declared.jobs.Task.TheVariants as tasks
 use Rattle.raid_base.specs.Fits.{fits}
 use Rattle.raid_base.specs.Numbers.{next_number, draw}
 use Rattle.raid_base.specs.Replies.{grant_of, is_missing}
-use Rattle.raid_base.specs.Steps.{Steps, Asks, Draws, Ends, bind, go_on, Walk, Through, Stopped, Phase, run, errand_of}
+use Rattle.raid_base.specs.Steps.{Steps, Asks, Draws, Ends, bind, go_on, Walk, Through, Stopped, Phase, run, draws, errand_of}
 use Rattle.stripe_layout.specs.Placement.{parity_bay}
 use Rattle.attempts.specs.Taking.{Finish, Row, Taken, is_behind, behind_from, broken, refusal, with_grant, unless, taking, why, with_parity, shares, claim, claims}
 use Rattle.attempts.specs.Releases.{releasing, end_as, released_steps, refused_steps}
@@ -201,9 +201,11 @@ IsStopCause ends.Mended = ⊥
 
 -- Whatever the calls that answer what is asked, by replies that fit, and whatever the host has seen where it draws, of which S
 -- holds where no number is left: the end is Q of the calls, the newest first, and where the host stops before it the cause is that.
+-- No draw follows another
 abbrev pub Caused : {A : Type 0} → HostNo → (List Call → Number → Type 0) → (List Call → A → Type 0) → List Call → Steps A → Type 0
 Caused host S Q calls (Ends a) = Q calls a
-Caused host S Q calls (Draws k) = (seen : Number) → (IsNone (next_number host seen) → S calls seen) → Caused host S Q calls (k (draw host seen))
+Caused host S Q calls (Draws k) =
+    (seen : Number) → (draws (k (draw host seen)) ≡ false) × ((IsNone (next_number host seen) → S calls seen) → Caused host S Q calls (k (draw host seen)))
 Caused host S Q calls (Asks e s c k) = IsStopCause s × ((call : Call) → IsReply e call → Caused host S Q (call ∷ calls) (k call.answer.reply))
 
 -- Walks
@@ -256,15 +258,23 @@ pub sometime-now : (P : List Call → Type 0) (calls : List Call) → P calls �
 sometime-now P [] p = p
 sometime-now P (call ∷ calls) p = inl p
 
+-- what follows a walk draws nothing
+pub run-quiet : {A B : Type 0} (phase : Phase A) (es : List Errand) (a : A) (f : Walk A → Steps B) → ((b : A) → draws (f (Through b)) ≡ false) → draws (bind (run phase es a) f) ≡ false
+run-quiet phase [] a f on = on a
+run-quiet phase (e ∷ es) a f on = refl
+
+pub released-quiet : (es : List Errand) (ended : Ended) → draws (released_steps es ended) ≡ false
+released-quiet es ended = run-quiet releasing es tt (end_as ended) (λ u. refl)
+
 -- a number is drawn, or there is none
 pub caused-draw : {B : Type 0} (host : HostNo) (S : List Call → Number → Type 0) (Q : List Call → B → Type 0) (calls : List Call) (f : Result Number Spent → Steps B)
-    → ((n : Number) → Caused host S Q calls (f (Ok n)))
+    → ((d : Result Number Spent) → draws (f d) ≡ false) → ((n : Number) → Caused host S Q calls (f (Ok n)))
     → ((spent : Spent) → Sometime (λ made. S made spent.seen) calls → Caused host S Q calls (f (Err spent)))
-    → (seen : Number) → (IsNone (next_number host seen) → S calls seen) → Caused host S Q calls (f (draw host seen))
-caused-draw host S Q calls f on off seen known = by (next_number host seen) refl where
-  by : (o : Option Number) → next_number host seen ≡ o → Caused host S Q calls (f (ok_or o (record { seen = seen })))
-  by (Some n) e = on n
-  by None e = off (record { seen = seen }) (sometime-now (λ made. S made seen) calls (known (subst IsNone (sym e) refl)))
+    → (seen : Number) → (draws (f (draw host seen)) ≡ false) × ((IsNone (next_number host seen) → S calls seen) → Caused host S Q calls (f (draw host seen)))
+caused-draw host S Q calls f quiet on off seen = (quiet (draw host seen), λ known. by known (next_number host seen) refl) where
+  by : (IsNone (next_number host seen) → S calls seen) → (o : Option Number) → next_number host seen ≡ o → Caused host S Q calls (f (ok_or o (record { seen = seen })))
+  by known (Some n) e = on n
+  by known None e = off (record { seen = seen }) (sometime-now (λ made. S made seen) calls (known (subst IsNone (sym e) refl)))
 
 -- Requests that take a slot
 pub record IsTake (what : Request) : Type 0 where

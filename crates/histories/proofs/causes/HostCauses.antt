@@ -34,17 +34,17 @@ use Rattle.script_text.specs.Script.{Script, jobs_of, parts_of, blocks_of}
 use Rattle.script_text.specs.Ranges.{IsScript}
 use Rattle.histories.specs.declared.operator.Gone.{Gone}
 use Rattle.histories.specs.Operator.{is_gone}
-use Rattle.histories.specs.Progress.{Ending, Work, Trying, Losing, Fitting, Over, Progress, Sent, asks, sent_by, work_errand, endings_of, with_ending, next_job, attempt, read_of, write_of, try_with, one_more, try_task, parts_end, try_parts, lose_job, fit_job, rebuild_job, start_task, start_jobs, stops_at, job_stops, stops, go_on, job_ended, task_of, try_again, once_more, is_spent, attempt_refused, next_row, row_mended, attempt_ended, quit_end, asks_on, steps_left, work_told, call_counted, takes}
+use Rattle.histories.specs.Progress.{Ending, Work, Trying, Losing, Fitting, Over, Progress, Sent, asks, sent_by, work_errand, endings_of, with_ending, next_job, attempt, read_of, write_of, try_with, one_more, try_task, parts_end, try_parts, lose_job, fit_job, rebuild_job, start_task, start_jobs, stops_at, job_stops, stops, go_on, job_ended, task_of, try_again, once_more, is_spent, attempt_refused, next_row, row_mended, attempt_ended, quit_end, asks_on, steps_left, work_told, call_counted}
 use Rattle.histories.specs.History.{if_taken, progress_at, bay_at, endings_at, IsNext, IsHistory}
 use Rattle.histories.specs.Calls.{Sometime}
 use Rattle.histories.specs.Bounds.{IsAimed}
-use Rattle.histories.specs.Causes.{DrawsAfter, IsDrawSpent, IsCauseIn, AreTries, MeetsCause}
+use Rattle.histories.specs.Causes.{DrawsAfter, IsDraw, IsCauseIn, AreTries, MeetsCause}
 use Rattle.histories.specs.HostLaws.{CausesAreMet}
 use Rattle.histories.proofs.bounds.BoundsTakes.{before_start, script-aims}
 use Rattle.histories.proofs.bounds.Awake.{parts-some, read-asks, write-asks}
 use Rattle.attempts.proofs.RoomLemmas.{all-append}
 use Rattle.histories.proofs.causes.CauseLemmas.{Stands, stands-in, IsReply, IsStopCause, Caused, FinishStands, sometime-now}
-use Rattle.histories.proofs.causes.SpentDraws.{settled-spent, spent_in, spent_of, told-seen, IsIdDraw, IsIdDrawn, ids-are-drawn}
+use Rattle.histories.proofs.causes.SpentDraws.{spent_in, spent_of, IsIdDraw, IsIdDrawn, ids-are-drawn}
 use Rattle.histories.proofs.causes.RepairCauses.{mends_caused, recoveries_caused}
 use Rattle.histories.proofs.causes.ReadCauses.{reads_caused}
 use Rattle.histories.proofs.causes.WriteCauses.{writes_caused}
@@ -54,12 +54,11 @@ same-host a b e = let same : a.0 ≡ b.0 = grind (arith, nat_tests) in ap (λ (k
 
 -- what is left once numbers were drawn, of which S holds where none is left, or a reply was told
 pub settled-caused : (host : HostNo) (S : List Call → Number → Type 0) (Q : List Call → Finish → Type 0) (calls : List Call) (seen : Number) (s : Steps Finish)
-    → (draws s ≡ true → (n : Number) → IsNone (next_number host n) → n ≡ (settled host seen s).seen → S calls n)
+    → (draws s ≡ true → IsNone (next_number host seen) → S calls seen)
     → Caused host S Q calls s → Caused host S Q calls (settled host seen s).steps
 settled-caused host S Q calls seen (Asks e t c k) known h = h
 settled-caused host S Q calls seen (Draws k) known h =
-    settled-caused host S Q calls (seen_drawn seen (draw host seen)) (k (draw host seen)) (λ d. known refl)
-    (h seen (λ none. known refl seen none (settled-spent host seen (Draws k) none)))
+    settled-caused host S Q calls (seen_drawn seen (draw host seen)) (k (draw host seen)) (λ d. absurd (let bad : true ≡ false = sym d ∙ (h seen).0 in cc)) ((h seen).1 (known refl))
 settled-caused host S Q calls seen (Ends f) known h = h
 
 pub behind-caused : (host : HostNo) (S : List Call → Number → Type 0) (Q : List Call → Finish → Type 0) (calls : List Call) (call : Call) (s : Steps Finish) → Caused host S Q calls s
@@ -110,15 +109,9 @@ all-tries all tries (causes.Released row) few e = grind (arith, nat_tests)
 all-tries all tries (causes.Seized row) few e = grind (arith, nat_tests)
 
 module _ (script : Script) (is : IsScript script) (host : HostNo) (history : List Call) where
-  -- the host had seen this number by then, and there was none above it; so it was when it drew after these calls of an attempt
-  abbrev pub WasSpent : Number → List Call → Type 0
-  WasSpent seen now = (seen ≡ (progress_at script host now).seen) × IsNone (next_number host seen)
-
-  abbrev pub IsDrawnAt : List Call → Number → List Call → Type 0
-  IsDrawnAt made seen now = DrawsAfter script host now made × WasSpent seen now
-
+  -- the host had seen this number when it drew after these calls of an attempt, and there was none above it
   abbrev pub AtDraw : List Call → Number → Type 0
-  AtDraw made seen = Sometime (IsDrawnAt made seen) history
+  AtDraw made seen = Sometime (λ now. DrawsAfter script host seen now made) history × IsNone (next_number host seen)
 
   -- Attempts. What may be tried
   abbrev pub IsTriable : Task → Type 0
@@ -385,8 +378,7 @@ module _ (script : Script) (is : IsScript script) (host : HostNo) (history : Lis
     -- where it draws then, this is known of what it has seen
     abbrev Known : Progress → Steps Finish → Type 0
     Known p steps =
-        draws (behind steps call.answer.reply) ≡ true → (n : Number) → IsNone (next_number host n)
-        → n ≡ (told host (record { seen = p.seen; steps = steps }) call.answer.reply).seen → AtDraw (call ∷ p.calls) n
+        draws (behind steps call.answer.reply) ≡ true → IsNone (next_number host (sees p.seen call.answer.reply)) → AtDraw (call ∷ p.calls) (sees p.seen call.answer.reply)
 
     trying-told : (p : Progress) (js : List Job) → p.jobs ≡ js → (steps : Steps Finish) → Sound p → TriesJob p.tries p.calls js steps → next_errand steps ≡ Some (errand_of call) → Known p steps
         → StandsWell (work_told script host (call_counted p call) call.answer.reply (Trying steps))
@@ -420,22 +412,14 @@ module _ (script : Script) (is : IsScript script) (host : HostNo) (history : Lis
         ap (λ (x : Errand). Some x) (one ∙ other)
 
   -- a draw in this history
-  at-draw : (earlier later : List Call) (call : Call) (fit : fits call.ask.what call.answer.reply ≡ true) → history ≡ later ++ call ∷ earlier → (call.ask.host.0 == host.0) ≡ true
+  at-draw : (earlier later : List Call) (call : Call) (fit : fits call.ask.what call.answer.reply ≡ true) → history ≡ later ++ call ∷ earlier
       → (steps : Steps Finish) → (progress_at script host earlier).work ≡ Trying steps → Known call fit (progress_at script host earlier) steps
-  at-draw earlier later call fit whole own steps works d n none same =
-      subst (Sometime (IsDrawnAt (call ∷ p.calls) n)) (sym whole)
-      (sometime-in (IsDrawnAt (call ∷ p.calls) n) later (call ∷ earlier) ((refl, steps, works, d), (same ∙ sym told_so ∙ sym worked ∙ sym taken, none))) where
-        p : Progress
-        p = progress_at script host earlier
+  at-draw earlier later call fit whole steps works d none = (subst (Sometime Is) (sym whole) (sometime-in Is later (call ∷ earlier) (refl, refl, steps, works, d)), none) where
+    p : Progress
+    p = progress_at script host earlier
 
-        told_so : (work_told script host (call_counted p call) call.answer.reply (Trying steps)).seen ≡ (told host (record { seen = p.seen; steps = steps }) call.answer.reply).seen
-        told_so = told-seen script host p call steps (subst (λ (m : Number). IsNone (next_number host m)) same none)
-
-        worked : (takes script host p call).seen ≡ (work_told script host (call_counted p call) call.answer.reply (Trying steps)).seen
-        worked = ap (λ (w : Work). (work_told script host (call_counted p call) call.answer.reply w).seen) works
-
-        taken : (progress_at script host (call ∷ earlier)).seen ≡ (takes script host p call).seen
-        taken = ap (λ (b : Bool). (if_taken script host p call b).seen) own
+    Is : List Call → Type 0
+    Is now = DrawsAfter script host (sees p.seen call.answer.reply) now (call ∷ p.calls)
 
   call-stands : (earlier later : List Call) (call : Call) → history ≡ later ++ call ∷ earlier → IsNext script earlier call → (own : Bool) → (call.ask.host.0 == host.0) ≡ own
       → StandsWell (progress_at script host earlier) → StandsWell (if_taken script host (progress_at script host earlier) call own)
@@ -446,7 +430,7 @@ module _ (script : Script) (is : IsScript script) (host : HostNo) (history : Lis
       subst (λ (h : HostNo). asks h (progress_at script h earlier) call.ask.moment ≡ Some sent) (same-host call.ask.host host at) next.asked in
       let ruled = ap (λ (c : Call). fits call.ask.what c.answer.reply) next.replied in
       let fit : fits call.ask.what call.answer.reply ≡ true = ruled ∙ replies_fit_lem (bay_at script call.bay earlier) call.ask (is_fault call.answer.reply) in
-      work-stands call fit p p.work w.sound w.work refl (was-asked call fit p.clock call.ask.moment (work_errand p.work) asked) (at-draw earlier later call fit whole at)
+      work-stands call fit p p.work w.sound w.work refl (was-asked call fit p.clock call.ask.moment (work_errand p.work) asked) (at-draw earlier later call fit whole)
   call-stands earlier later call whole next false at w = w
 
   history-stands : (now later : List Call) → history ≡ later ++ now → IsHistory script now → StandsWell (progress_at script host now)
@@ -458,19 +442,24 @@ module _ (script : Script) (is : IsScript script) (host : HostNo) (history : Lis
   -- what stands behind a result is its cause
   spent-in : (e : Ending) (seen : Number) → Sometime (λ made. AtDraw made seen) e.calls → IsCauseIn script history host e (causes.Spent seen)
   spent-in e seen h =
-      sometime-map (λ now. Sometime (λ made. IsDrawnAt made seen now) e.calls) (IsDrawSpent script host e seen)
-      (λ now d. let both = sometime-both (DrawsAfter script host now) (WasSpent seen now) e.calls d in (inr both.0, both.1.0, both.1.1)) history
-      (sometime-swap (λ made now. IsDrawnAt made seen now) e.calls history h)
+      let both = sometime-both (λ made. Sometime (λ now. DrawsAfter script host seen now made) history) (IsNone (next_number host seen)) e.calls h in (
+        both.1,
+        sometime-map (λ now. Sometime (DrawsAfter script host seen now) e.calls) (IsDraw script host e seen) (λ now d. inl d) history
+            (sometime-swap (λ made now. DrawsAfter script host seen now made) e.calls history both.0),
+      )
 
-  cause-in : (e : Ending) (cause : Cause) → IsFounded e cause → ((seen : Number) → spent_in cause ≡ Some seen → e.calls ≡ [] → Sometime (IsIdDraw script host e seen) history)
+  cause-in : (e : Ending) (cause : Cause) → IsFounded e cause
+      → ((seen : Number) → spent_in cause ≡ Some seen → e.calls ≡ [] → IsNone (next_number host seen) × Sometime (IsIdDraw script host e seen) history)
       → IsCauseIn script history host e cause
   cause-in e cause (inl s) drawn = stands-in script history host AtDraw e (spent-in e) cause s
   cause-in e cause (inr (inl quit)) drawn = subst (IsCauseIn script history host e) (sym quit.0) quit.1
   cause-in e cause (inr (inr spent)) drawn =
+      let id = drawn spent.0 (ap spent_in spent.1) spent.2 in
       subst (IsCauseIn script history host e) (sym spent.1)
-      (sometime-map (IsIdDraw script host e spent.0) (IsDrawSpent script host e spent.0) (λ now d. (inl (spent.2, d.0), d.1, d.2)) history (drawn spent.0 (ap spent_in spent.1) spent.2))
+      (id.0, sometime-map (IsIdDraw script host e spent.0) (IsDraw script host e spent.0) (λ now d. inr (spent.2, d.0, d.1)) history id.1)
 
-  ending-met : (e : Ending) (ended : JobEnd) → IsMet e ended → ((seen : Number) → spent_of ended ≡ Some seen → e.calls ≡ [] → Sometime (IsIdDraw script host e seen) history)
+  ending-met : (e : Ending) (ended : JobEnd) → IsMet e ended
+      → ((seen : Number) → spent_of ended ≡ Some seen → e.calls ≡ [] → IsNone (next_number host seen) × Sometime (IsIdDraw script host e seen) history)
       → MeetsCause script history host e ended
   ending-met e (job_ends.Part n made cause) met drawn = cause-in e cause met drawn
   ending-met e (job_ends.Gave n cause) met drawn = (cause-in e cause met.0 drawn, met.1, met.2)

@@ -1,11 +1,11 @@
 -- The causes of reads.
-use Rattle.std.proofs.Common.{◌≡◌, inl, inr, refl, sym, subst, ℕ, Bool, true, false, if◌then◌else◌, List, [], ◌∷◌, ◌++◌, Option, Some, None, Ok}
-use Rattle.std.specs.Prelude.{IsNone}
+use Rattle.std.proofs.Common.{◌≡◌, inl, inr, refl, sym, subst, ℕ, Bool, true, false, if◌then◌else◌, List, [], ◌∷◌, ◌++◌, Option, Some, None, Result, Ok, Err}
 use Rattle.std.specs.List.{AllByRecursion}
 use Rattle.raid_base.specs.declared.numbers.BayNo.{BayNo}
 use Rattle.raid_base.specs.declared.numbers.HostNo.{HostNo}
 use Rattle.raid_base.specs.declared.numbers.RowNo.{RowNo}
 use Rattle.raid_base.specs.declared.numbers.Number.{Number}
+use Rattle.raid_base.specs.declared.numbers.Spent.{Spent}
 use Rattle.raid_base.specs.declared.messages.Mode.{Mode}
 use Rattle.raid_base.specs.declared.messages.Mode.TheVariants.{Lock, Order}
 use Rattle.raid_base.specs.declared.messages.Request.{Request}
@@ -16,13 +16,13 @@ use Rattle.raid_base.specs.declared.messages.Errand.{Errand}
 use Rattle.raid_base.specs.declared.messages.Grant.{Grant}
 use Rattle.raid_base.specs.declared.messages.Call.{Call}
 use Rattle.raid_base.specs.declared.jobs.Cause.TheVariants as causes
+use Rattle.raid_base.specs.declared.jobs.Ended.TheVariants as ends
 use Rattle.raid_base.specs.declared.jobs.RowPart.{RowPart}
 use Rattle.raid_base.specs.declared.jobs.Task.{Task}
 use Rattle.raid_base.specs.declared.jobs.Task.TheVariants as tasks
 use Rattle.raid_base.specs.Fits.{fits, fits_release}
-use Rattle.raid_base.specs.Numbers.{next_number, draw}
 use Rattle.raid_base.specs.Replies.{is_done}
-use Rattle.raid_base.specs.Steps.{Steps, bind, run, Walk, Through, Stopped}
+use Rattle.raid_base.specs.Steps.{Steps, bind, run, draws, Walk, Through, Stopped}
 use Rattle.stripe_layout.specs.Placement.{parity_bay, bays_of, units_in, units_out}
 use Rattle.attempts.specs.Taking.{Access, Finish, Row, Rows, no_rows, Taken, begun, row_ended, with_parity, with_wanted, with_other, lacks, behind_from, why, shares}
 use Rattle.attempts.specs.Releases.{releases, read_releases}
@@ -32,7 +32,7 @@ use Rattle.script_text.specs.Script.{Script}
 use Rattle.histories.specs.Progress.{access}
 use Rattle.histories.specs.Calls.{Happened}
 use Rattle.histories.specs.Causes.{IsReadOrWrite, IsRead, IsReleaseIn}
-use Rattle.histories.proofs.causes.CauseLemmas.{Stands, IsReply, what-asked, Caused, caused-walk, caused-draw, some-none, MissingTold, none-missing, FinishStands, refuses, BehindRightly, behind-rightly, caused-takes, shares-take}
+use Rattle.histories.proofs.causes.CauseLemmas.{Stands, IsReply, what-asked, Caused, caused-walk, run-quiet, released-quiet, caused-draw, some-none, MissingTold, none-missing, FinishStands, refuses, BehindRightly, behind-rightly, caused-takes, shares-take}
 
 -- a read is a read or a write
 read-plain : (task : Task) → IsRead task → IsReadOrWrite task
@@ -113,14 +113,21 @@ module _ (script : Script) (host : HostNo) (S : List Call → Number → Type 0)
         ended cs None g = tt
         ended cs (Some row) g = (lock, reads, g)
 
-  draws : script.mode ≡ Lock → (rows : List Row) (calls : List Call) (seen : Number) → (IsNone (next_number host seen) → S calls seen) → Caused host S Ending calls (read_drawn a rows (draw host seen))
-  draws lock rows calls seen known =
-      caused-draw host S Ending calls (read_drawn a rows) (λ n. frees lock n rows calls)
-      (λ spent none. refuses script host S task (read_releases a rows) (causes.Spent spent.seen) calls none) seen known
+  quiet : (rows : List Row) (d : Result Number Spent) → draws (read_drawn a rows d) ≡ false
+  quiet rows (Ok n) = run-quiet freeing (numbered_releases a n rows) None (read_freed a n rows) ended where
+    ended : (o : Option RowNo) → draws (read_freed a n rows (Through o)) ≡ false
+    ended None = refl
+    ended (Some row) = refl
+  quiet rows (Err spent) = released-quiet (read_releases a rows) (ends.Refused (causes.Spent spent.seen))
+
+  draw-caused : script.mode ≡ Lock → (rows : List Row) (calls : List Call) → Caused host S Ending calls (read_numbered Lock a rows)
+  draw-caused lock rows calls =
+      caused-draw host S Ending calls (read_drawn a rows) (quiet rows) (λ n. frees lock n rows calls)
+      (λ spent none. refuses script host S task (read_releases a rows) (causes.Spent spent.seen) calls none)
 
   numbered : (mode : Mode) → script.mode ≡ mode → (rows : List Row) (calls : List Call) → Caused host S Ending calls (read_numbered mode a rows)
   numbered Order same rows calls = tt
-  numbered Lock same rows calls = λ seen known. draws same rows calls seen known
+  numbered Lock same rows calls = draw-caused same rows calls
 
   -- shares
   stops : (calls : List Call) (taken : Taken) (e : Errand) (r : Reply) → Stands script host S task calls (why (behind_from script.mode id) taken e r) → Caused host S Ending calls (read_refused a taken e r)

@@ -1,12 +1,13 @@
 -- The causes of rebuilds and recoveries.
-use Rattle.std.proofs.Common.{◌≡◌, inl, inr, refl, sym, ap, subst, ◌∙◌, ℕ, ◌==◌, Bool, true, false, if◌then◌else◌, not, ◌&&◌, List, [], ◌∷◌, ◌++◌, Option, Some, None, IfSome, is_none, option_map}
-use Rattle.std.specs.Prelude.{IsNone, is_some}
+use Rattle.std.proofs.Common.{◌≡◌, inl, inr, refl, sym, ap, subst, ◌∙◌, ℕ, ◌==◌, Bool, true, false, if◌then◌else◌, not, ◌&&◌, List, [], ◌∷◌, ◌++◌, Option, Some, None, Result, Ok, Err, IfSome, is_none, option_map}
+use Rattle.std.specs.Prelude.{is_some}
 use Rattle.std.specs.List.{AllByRecursion}
 use Rattle.std.proofs.lemmas.Bool.{eq-eqb}
 use Rattle.raid_base.specs.declared.numbers.BayNo.{BayNo}
 use Rattle.raid_base.specs.declared.numbers.HostNo.{HostNo}
 use Rattle.raid_base.specs.declared.numbers.RowNo.{RowNo}
 use Rattle.raid_base.specs.declared.numbers.Number.{Number}
+use Rattle.raid_base.specs.declared.numbers.Spent.{Spent}
 use Rattle.raid_base.specs.declared.cells.Cell.{Cell}
 use Rattle.raid_base.specs.declared.messages.How.TheVariants.{Mend, Seize}
 use Rattle.raid_base.specs.declared.messages.Request.{Request}
@@ -22,9 +23,8 @@ use Rattle.raid_base.specs.declared.jobs.Ended.TheVariants as ends
 use Rattle.raid_base.specs.declared.jobs.Task.{Task}
 use Rattle.raid_base.specs.declared.jobs.Task.TheVariants as tasks
 use Rattle.raid_base.specs.Fits.{fits, fits_confirm, fits_put}
-use Rattle.raid_base.specs.Numbers.{next_number, draw}
 use Rattle.raid_base.specs.Replies.{grant_of, is_held, is_missing}
-use Rattle.raid_base.specs.Steps.{bind, Through, Stopped, run}
+use Rattle.raid_base.specs.Steps.{bind, Through, Stopped, run, draws}
 use Rattle.stripe_layout.specs.Placement.{parity_bay, bays_of, units}
 use Rattle.attempts.specs.declared.Repair.{Repair}
 use Rattle.attempts.specs.declared.Rescue.{Rescue}
@@ -37,7 +37,7 @@ use Rattle.attempts.specs.Recovery.{whole_part, unseized_data, unseized_parity, 
 use Rattle.script_text.specs.Script.{Script}
 use Rattle.histories.specs.Calls.{Happened}
 use Rattle.histories.specs.Causes.{IsMendClaim, IsGranted, IsLacking, is_held_well, HasOwnCause}
-use Rattle.histories.proofs.causes.CauseLemmas.{IsHeldBadlyAfter, Stands, IsReply, bay-asked, what-asked, IsTake, Caused, caused-go, caused-walk, caused-one, caused-draw, claim-takes, MissingTold, none-missing, missing-more, grant-there, ParityTold, parity-more, passed, any-errands, FinishStands, releases-caused, refuses, BehindRightly, never-behind, refusal-stands, unrefused-plain, else-stands, caused-takes, caused-parity, claims-take}
+use Rattle.histories.proofs.causes.CauseLemmas.{IsHeldBadlyAfter, Stands, IsReply, bay-asked, what-asked, IsTake, Caused, caused-go, caused-walk, caused-one, released-quiet, caused-draw, claim-takes, MissingTold, none-missing, missing-more, grant-there, ParityTold, parity-more, passed, any-errands, FinishStands, releases-caused, refuses, BehindRightly, never-behind, refusal-stands, unrefused-plain, else-stands, caused-takes, caused-parity, claims-take}
 
 -- a put that was not done
 module _ (script : Script) (host : HostNo) (S : List Call → Number → Type 0) (task : Task) (row : RowNo) (id n : Number) (cell : Cell) (bay : BayNo) where
@@ -112,10 +112,19 @@ module _ (script : Script) (host : HostNo) (S : List Call → Number → Type 0)
       (λ call is stop. mend-refuses (mend_releases m holds) (put_cause row (put id row n (mended_cell m holds) target) call.answer.reply) (call ∷ calls)
       (put-stopped script host S (tasks.Rebuild target) row id n (mended_cell m holds) target calls call is stop))
 
-  mend-draws : (holds : List Hold) (calls : List Call) (seen : Number) → (IsNone (next_number host seen) → S calls seen) → Caused host S Ending calls (mend_drawn m holds (draw host seen))
-  mend-draws holds calls seen known =
-      caused-draw host S Ending calls (mend_drawn m holds) (λ n. mend-puts holds n (is_shown target holds) calls)
-      (λ spent none. mend-refuses (mend_releases m holds) (causes.Spent spent.seen) calls none) seen known
+  -- no draw follows
+  mend-quiet : (holds : List Hold) (n : Number) (shown : Bool) → draws (mend_numbered m holds n shown) ≡ false
+  mend-quiet holds n true = released-quiet (mend_releases m holds) ends.Mended
+  mend-quiet holds n false = refl
+
+  drawn-quiet : (holds : List Hold) (d : Result Number Spent) → draws (mend_drawn m holds d) ≡ false
+  drawn-quiet holds (Ok n) = mend-quiet holds n (is_shown target holds)
+  drawn-quiet holds (Err spent) = released-quiet (mend_releases m holds) (ends.Refused (causes.Spent spent.seen))
+
+  mend-draws : (holds : List Hold) (calls : List Call) → Caused host S Ending calls (mend_confirmed m holds (Through tt))
+  mend-draws holds calls =
+      caused-draw host S Ending calls (mend_drawn m holds) (drawn-quiet holds) (λ n. mend-puts holds n (is_shown target holds) calls)
+      (λ spent none. mend-refuses (mend_releases m holds) (causes.Spent spent.seen) calls none)
 
   -- the confirm of the parity
   abbrev mend_confirm : Errand
@@ -126,7 +135,7 @@ module _ (script : Script) (host : HostNo) (S : List Call → Number → Type 0)
     on : (call : Call) → IsReply mend_confirm call → IfSome (mend_confirming.step tt mend_confirm call.answer.reply) (λ u. Caused host S Ending (call ∷ calls) (mend_confirmed m holds (Through u)))
     on call is =
         step-some (λ u. Caused host S Ending (call ∷ calls) (mend_confirmed m holds (Through u))) (is_held call.answer.reply) tt
-        (λ seen known. mend-draws holds (call ∷ calls) seen known)
+        (mend-draws holds (call ∷ calls))
 
     off : (call : Call) → IsReply mend_confirm call → mend_confirming.step tt mend_confirm call.answer.reply ≡ None → Caused host S Ending (call ∷ calls) (mend_confirmed m holds (Stopped tt mend_confirm call.answer.reply))
     off call is stop =
@@ -256,10 +265,20 @@ module _ (script : Script) (host : HostNo) (S : List Call → Number → Type 0)
       (put_cause row (put id row n (recovered_parity line lost) (parity_bay script.n row)) call.answer.reply) (call ∷ calls)
       (put-stopped script host S (tasks.Recover row) row id n (recovered_parity line lost) (parity_bay script.n row) calls call is stop))
 
-  recover-draws : (line : Row) (calls : List Call) (seen : Number) → (IsNone (next_number host seen) → S calls seen) → Caused host S Recovers calls (recover_drawn r line (draw host seen))
-  recover-draws line calls seen known =
-      caused-draw host S Recovers calls (recover_drawn r line) (λ n. recover-puts line n (verdict r line) calls)
-      (λ spent none. recover-refuses line (causes.Spent spent.seen) calls none) seen known
+  -- no draw follows
+  by-quiet : (line : Row) (n : Number) (v : Verdict) → draws (recover_by r line n v) ≡ false
+  by-quiet line n Leaves = released-quiet (give_back r (granted_data r line ++ parity_granted script.n row line.parity)) (ends.Recovered n true None)
+  by-quiet line n (Sums lost) = refl
+
+  recover-quiet : (line : Row) (d : Result Number Spent) → draws (recover_drawn r line d) ≡ false
+  recover-quiet line (Ok n) = by-quiet line n (verdict r line)
+  recover-quiet line (Err spent) = released-quiet (give_back r (unseized_data r line ++ unseized_parity r line.parity)) (ends.Refused (causes.Spent spent.seen))
+
+  recover-draws : (taken : Taken) (calls : List Call) → Caused host S Recovers calls (recover_confirmed r taken (Through tt))
+  recover-draws taken calls =
+      let line : Row = taken.row in
+      caused-draw host S Recovers calls (recover_drawn r line) (recover-quiet line) (λ n. recover-puts line n (verdict r line) calls)
+      (λ spent none. recover-refuses line (causes.Spent spent.seen) calls none)
 
   -- the confirm of the parity
   abbrev recover_confirm : Errand
@@ -282,7 +301,7 @@ module _ (script : Script) (host : HostNo) (S : List Call → Number → Type 0)
   recover-confirms calls taken missed told =
       caused-one host S Recovers (recover_confirming taken) (recover_confirmed r taken) recover_confirm calls tt tt
       (λ call is. step-some (λ u. Caused host S Recovers (call ∷ calls) (recover_confirmed r taken (Through u))) (stays taken (parity_bay script.n row) call.answer.reply) tt
-      (λ seen known. recover-draws taken.row (call ∷ calls) seen known))
+      (recover-draws taken (call ∷ calls)))
       (λ call is stop. recover-refuses taken.row _ (call ∷ calls)
       (else-stands script host S (tasks.Recover row) (call ∷ calls) (refusal None taken.missing (parity_bay script.n row) call.answer.reply) (causes.Changed row)
       (refusal-stands script host S (tasks.Recover row) calls recover_confirm call is None taken.missing (recover-floor recover_confirm.request) missed)

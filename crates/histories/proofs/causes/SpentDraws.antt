@@ -1,4 +1,4 @@
--- Draws for which no number is left: what the host has seen stays so, and a result for want of an id comes with the draw.
+-- A result for want of an id comes with the draw for which no number was left.
 use Rattle.std.proofs.Common.{◌≡◌, refl, sym, ap, subst, ◌∙◌, ◌+◌, ◌==◌, zero, suc, inl, inr, Bool, true, false, List, [], ◌∷◌, ◌++◌, drop, Contains, Option, Some, None, Result, Ok, Err, ok_or, arith, append-nil, append_assoc}
 use Rattle.std.specs.Prelude.{IsNone}
 use Rattle.std.specs.List.{AllByRecursion}
@@ -20,8 +20,8 @@ use Rattle.raid_base.specs.declared.jobs.Ended.{Ended}
 use Rattle.raid_base.specs.declared.jobs.Ended.TheVariants as ends
 use Rattle.raid_base.specs.declared.jobs.JobEnd.{JobEnd}
 use Rattle.raid_base.specs.declared.jobs.JobEnd.TheVariants as job_ends
-use Rattle.raid_base.specs.Numbers.{next_number, draw, seen_drawn}
-use Rattle.raid_base.specs.Steps.{Steps, Asks, Draws, Ends, Standing, settled, told}
+use Rattle.raid_base.specs.Numbers.{next_number, draw}
+use Rattle.raid_base.specs.Steps.{Steps, Asks, Draws, Ends, Standing, told}
 use Rattle.attempts.specs.Taking.{Finish}
 use Rattle.attempts.proofs.RoomLemmas.{all-append}
 use Rattle.attempts.proofs.PhaseLemmas.{all-weaken}
@@ -45,20 +45,6 @@ all-contained P Q (x ∷ xs) all f = (
   f x (zero, omega arith, refl) all.0,
   all-contained P Q xs all.1 (λ y at p. f y (suc at.0, omega (arith, at.1), at.2) p),
 )
-
--- where no number is left none is drawn, and what is seen stays
-not-drawn : (host : HostNo) (seen : Number) → IsNone (next_number host seen) → seen ≡ seen_drawn seen (draw host seen)
-not-drawn host seen none = by (next_number host seen) none where
-  by : (o : Option Number) → IsNone o → seen ≡ seen_drawn seen (ok_or o (record { seen = seen }))
-  by None n = refl
-  by (Some number) n = absurd (let bad : true ≡ false = n in cc)
-
-pub settled-spent : (host : HostNo) (seen : Number) (s : Steps Finish) → IsNone (next_number host seen) → seen ≡ (settled host seen s).seen
-settled-spent host seen (Asks e t c k) none = refl
-settled-spent host seen (Draws k) none =
-    let same : seen ≡ seen_drawn seen (draw host seen) = not-drawn host seen none in
-    same ∙ settled-spent host (seen_drawn seen (draw host seen)) (k (draw host seen)) (subst (λ (n : Number). IsNone (next_number host n)) same none)
-settled-spent host seen (Ends f) none = refl
 
 -- what a draw for which there is no number tells
 spent-tells : (host : HostNo) (seen : Number) (spent : Spent) → draw host seen ≡ Err spent → (spent.seen ≡ seen) × IsNone (next_number host seen)
@@ -246,15 +232,7 @@ module _ (script : Script) (host : HostNo) where
     left-grows (Draws k) = stays p (record p { work = Over }) refl refl
     left-grows (Ends finish) = attempt-grows finish.contents finish.ended
 
-  -- Calls. What is seen once an attempt was told a reply
-  pub told-seen : (p : Progress) (call : Call) (steps : Steps Finish)
-      → IsNone (next_number host (told host (record { seen = p.seen; steps = steps }) call.answer.reply).seen)
-      → (work_told script host (call_counted p call) call.answer.reply (Trying steps)).seen ≡ (told host (record { seen = p.seen; steps = steps }) call.answer.reply).seen
-  told-seen p call steps none =
-      let now : Standing Finish = told host (record { seen = p.seen; steps = steps }) call.answer.reply in
-      (left-grows (record (call_counted p call) { seen = now.seen }) no-first now.steps).kept none
-
-  -- what a call adds
+  -- Calls: what each adds
   record Adds (p r : Progress) : Type 0 where
     new : List Ending
     longer : r.endings ≡ p.endings ++ new
@@ -276,17 +254,20 @@ module _ (script : Script) (host : HostNo) where
       adds q p (job_ended script host q job_ends.Fitted []) refl (called-grows q no-first job_ends.Fitted [])
   work-adds p call Over = record { new = []; longer = sym (append-nil p.endings); tells = tt }
 
-  -- the result came at a draw of an id, of which there was none above this number
+  -- the result came when the host had seen this much
   abbrev pub IsIdDraw : Ending → Number → List Call → Type 0
-  IsIdDraw e seen now = ComesWith script host e now × (seen ≡ (progress_at script host now).seen) × IsNone (next_number host seen)
+  IsIdDraw e seen now = ComesWith script host e now × (seen ≡ (progress_at script host now).seen)
 
   abbrev pub IsIdDrawn : List Call → Ending → Type 0
-  IsIdDrawn history e = (seen : Number) → spent_of e.ended ≡ Some seen → e.calls ≡ [] → Sometime (IsIdDraw e seen) history
+  IsIdDrawn history e = (seen : Number) → spent_of e.ended ≡ Some seen → e.calls ≡ [] → IsNone (next_number host seen) × Sometime (IsIdDraw e seen) history
+
+  later-drawn : (earlier : List Call) (call : Call) (e : Ending) → IsIdDrawn earlier e → IsIdDrawn (call ∷ earlier) e
+  later-drawn earlier call e drawn seen spent bare = let d = drawn seen spent bare in (d.0, inr d.1)
 
   call-drawn : (earlier : List Call) (call : Call) → AllByRecursion (IsIdDrawn earlier) (progress_at script host earlier).endings
       → (own : Bool) → (call.ask.host.0 == host.0) ≡ own → AllByRecursion (IsIdDrawn (call ∷ earlier)) (if_taken script host (progress_at script host earlier) call own).endings
   call-drawn earlier call before false same =
-      all-weaken (IsIdDrawn earlier) (IsIdDrawn (call ∷ earlier)) (λ e drawn seen spent bare. inr (drawn seen spent bare)) (progress_at script host earlier).endings before
+      all-weaken (IsIdDrawn earlier) (IsIdDrawn (call ∷ earlier)) (later-drawn earlier call) (progress_at script host earlier).endings before
   call-drawn earlier call before true same = subst (AllByRecursion (IsIdDrawn (call ∷ earlier))) (sym a.longer) all where
     p : Progress
     p = progress_at script host earlier
@@ -303,9 +284,10 @@ module _ (script : Script) (host : HostNo) where
     all : AllByRecursion (IsIdDrawn (call ∷ earlier)) (p.endings ++ a.new)
     all =
         all-append (IsIdDrawn (call ∷ earlier)) p.endings a.new
-        (all-weaken (IsIdDrawn earlier) (IsIdDrawn (call ∷ earlier)) (λ e drawn seen spent bare. inr (drawn seen spent bare)) p.endings before)
+        (all-weaken (IsIdDrawn earlier) (IsIdDrawn (call ∷ earlier)) (later-drawn earlier call) p.endings before)
         (all-contained (TellsSeen host r.seen) (IsIdDrawn (call ∷ earlier)) a.new a.tells
-        (λ e at tell seen spent bare. inl ((a.new, ap (λ (x : Progress). x.endings) now ∙ a.longer, at), (tell seen spent bare).0 ∙ sym (ap (λ (x : Progress). x.seen) now), (tell seen spent bare).1)))
+        (λ e at tell seen spent bare. let told = tell seen spent bare in
+        (told.1, inl ((a.new, ap (λ (x : Progress). x.endings) now ∙ a.longer, at), told.0 ∙ sym (ap (λ (x : Progress). x.seen) now)))))
 
   pub ids-are-drawn : (history : List Call) → AllByRecursion (IsIdDrawn history) (endings_at script history host)
   ids-are-drawn [] = subst (AllByRecursion (IsIdDrawn [])) (sym g.longer) all where
@@ -315,5 +297,5 @@ module _ (script : Script) (host : HostNo) where
     all : AllByRecursion (IsIdDrawn []) g.new
     all =
         all-contained (TellsSeen host (at_start script host).seen) (IsIdDrawn []) g.new g.tells
-        (λ e at tell seen spent bare. (subst (λ (es : List Ending). Contains es e) (sym g.longer) at, (tell seen spent bare).0, (tell seen spent bare).1))
+        (λ e at tell seen spent bare. let told = tell seen spent bare in (told.1, (subst (λ (es : List Ending). Contains es e) (sym g.longer) at, told.0)))
   ids-are-drawn (call ∷ earlier) = call-drawn earlier call (ids-are-drawn earlier) (call.ask.host.0 == host.0) refl

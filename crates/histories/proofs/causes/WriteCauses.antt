@@ -1,11 +1,11 @@
 -- The causes of writes.
-use Rattle.std.proofs.Common.{◌≡◌, is_some, inl, inr, refl, sym, ap, subst, ◌∙◌, ℕ, ◌==◌, Bool, true, false, if◌then◌else◌, List, [], ◌∷◌, ◌++◌, Option, Some, None, IfSome, option_map, map, zip}
-use Rattle.std.specs.Prelude.{IsNone}
+use Rattle.std.proofs.Common.{◌≡◌, is_some, inl, inr, refl, sym, ap, subst, ◌∙◌, ℕ, ◌==◌, Bool, true, false, if◌then◌else◌, List, [], ◌∷◌, ◌++◌, Option, Some, None, Result, Ok, Err, IfSome, option_map, map, zip}
 use Rattle.std.specs.List.{AllByRecursion}
 use Rattle.raid_base.specs.declared.numbers.BayNo.{BayNo}
 use Rattle.raid_base.specs.declared.numbers.HostNo.{HostNo}
 use Rattle.raid_base.specs.declared.numbers.RowNo.{RowNo}
 use Rattle.raid_base.specs.declared.numbers.Number.{Number}
+use Rattle.raid_base.specs.declared.numbers.Spent.{Spent}
 use Rattle.raid_base.specs.declared.cells.Cell.{Cell}
 use Rattle.raid_base.specs.declared.messages.Mode.{Mode}
 use Rattle.raid_base.specs.declared.messages.Mode.TheVariants.{Lock, Order}
@@ -25,9 +25,8 @@ use Rattle.raid_base.specs.declared.jobs.Plan.TheVariants.{Full, Small, Reconstr
 use Rattle.raid_base.specs.declared.jobs.RowPart.{RowPart}
 use Rattle.raid_base.specs.declared.jobs.Task.{Task}
 use Rattle.raid_base.specs.Fits.{fits, fits_put}
-use Rattle.raid_base.specs.Numbers.{next_number, draw}
 use Rattle.raid_base.specs.Replies.{grant_of, held_of, put_end}
-use Rattle.raid_base.specs.Steps.{Steps, bind, run, Through}
+use Rattle.raid_base.specs.Steps.{Steps, bind, run, draws, Through}
 use Rattle.stripe_layout.specs.Placement.{parity_bay, bays_of, units_in, units_out}
 use Rattle.attempts.specs.Taking.{Access, Finish, Row, Rows, no_rows, Taken, begun, row_ended, with_parity, with_wanted, with_other, with_grant, lacks, behind_from, refusal, unless, why, taking_until}
 use Rattle.attempts.specs.Releases.{granted_of, write_releases}
@@ -41,7 +40,7 @@ use Rattle.histories.specs.Calls.{Happened, id_of, Answers}
 use Rattle.histories.specs.Causes.{IsReadOrWrite, is_held_well, HasOwnCause, IsPutIn}
 use Rattle.histories.specs.Torn.{IsMissing}
 use Rattle.histories.specs.Completeness.{missing_in}
-use Rattle.histories.proofs.causes.CauseLemmas.{missing-kept, missing-now, Stands, IsReply, bay-asked, what-asked, IsStopCause, Caused, caused-walk, caused-one, caused-draw, some-none, any-errands, GrantOrGap, take-told, MissingTold, none-missing, missing-more, missing-again, grant-there, with-missing, ParityTold, lacking-missing, parity-more, EndStands, FinishStands, refuses, BehindRightly, behind-rightly, refusal-stands, unrefused-plain, else-stands, Takes, caused-takes, caused-parity, shares-take, claims-take}
+use Rattle.histories.proofs.causes.CauseLemmas.{missing-kept, missing-now, Stands, IsReply, bay-asked, what-asked, IsStopCause, Caused, caused-walk, caused-one, run-quiet, released-quiet, caused-draw, some-none, any-errands, GrantOrGap, take-told, MissingTold, none-missing, missing-more, missing-again, grant-there, with-missing, ParityTold, lacking-missing, parity-more, EndStands, FinishStands, refuses, BehindRightly, behind-rightly, refusal-stands, unrefused-plain, else-stands, Takes, caused-takes, caused-parity, shares-take, claims-take}
 
 -- Puts
 abbrev IsPutFor : RowNo → Errand → Type 0
@@ -237,14 +236,32 @@ module _ (script : Script) (host : HostNo) (S : List Call → Number → Type 0)
   puts-rows n all (row ∷ rows) calls puts told =
       puts-data n (put_rows a n (write_last a n all) rows) (puts-rows n all rows) row calls (at_row puts) told
 
-  draws : (rows : List Row) (calls : List Call) (seen : Number) → (IsNone (next_number host seen) → S calls seen) → Caused host S Ending calls (write_drawn a rows (draw host seen))
-  draws rows calls seen known =
-      caused-draw host S Ending calls (write_drawn a rows) (λ n. puts-rows n rows rows calls no_puts tt)
-      (λ spent none. refuses script host S task (write_releases a rows) (causes.Spent spent.seen) calls none) seen known
+  -- no draw follows
+  lasts-quiet : (n : Number) (all : List Row) (puts : Puts) → draws (write_last a n all puts) ≡ false
+  lasts-quiet n all puts = run-quiet (finishing a n) (reader_releases a.mode a all) puts (write_end a n) (λ p. refl)
+
+  parity-quiet : (n : Number) (row : Row) (rest : Puts → Steps Finish) → ((puts : Puts) → draws (rest puts) ≡ false) → (puts : Puts) (grant : Option Grant) → draws (put_parity a n row rest puts grant) ≡ false
+  parity-quiet n row rest quiet puts None = quiet puts
+  parity-quiet n row rest quiet puts (Some grant) = refl
+
+  puts-quiet : (n : Number) (all rows : List Row) (puts : Puts) → draws (put_rows a n (write_last a n all) rows puts) ≡ false
+  puts-quiet n all [] puts = lasts-quiet n all puts
+  puts-quiet n all (row ∷ rows) puts =
+      run-quiet (putting_data a n row) (data_puts a n row) (at_row puts) (data_done a n row (put_rows a n (write_last a n all) rows))
+      (λ p. parity-quiet n row (put_rows a n (write_last a n all) rows) (puts-quiet n all rows) p row.parity)
+
+  quiet : (rows : List Row) (d : Result Number Spent) → draws (write_drawn a rows d) ≡ false
+  quiet rows (Ok n) = puts-quiet n rows rows no_puts
+  quiet rows (Err spent) = released-quiet (write_releases a rows) (ends.Refused (causes.Spent spent.seen))
+
+  draw-caused : (rows : List Row) (calls : List Call) → Caused host S Ending calls (write_numbered Lock a rows)
+  draw-caused rows calls =
+      caused-draw host S Ending calls (write_drawn a rows) (quiet rows) (λ n. puts-rows n rows rows calls no_puts tt)
+      (λ spent none. refuses script host S task (write_releases a rows) (causes.Spent spent.seen) calls none)
 
   numbered : (mode : Mode) (rows : List Row) (calls : List Call) → Caused host S Ending calls (write_numbered mode a rows)
   numbered Order rows calls = puts-rows id rows rows calls no_puts tt
-  numbered Lock rows calls = λ seen known. draws rows calls seen known
+  numbered Lock rows calls = draw-caused rows calls
 
   -- Confirms. The parity of each row was claimed in these calls, and where another unit lacks some slot was missing
   abbrev OthersTold : List Call → Row → Type 0

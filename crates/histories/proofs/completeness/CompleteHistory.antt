@@ -226,7 +226,7 @@ module _ (script : Script) (host : HostNo) where
   settled-fated : (task : Task) (calls : List Call) (seen : Number) (s : Steps Finish) → Fated task calls s → Fated task calls (settled host seen s).steps
   settled-fated task calls seen s f =
       record {
-        caused = settled-caused host AnySeen (FinishStands script host AnySeen task) calls seen s (λ d n none same. tt) f.caused;
+        caused = settled-caused host AnySeen (FinishStands script host AnySeen task) calls seen s (λ d none. tt) f.caused;
         ends = settled-ends (FinishesAs task) host seen s f.ends;
       }
 
