@@ -14,3 +14,4 @@ pub mod RunLemmas
 pub mod DraftLemmas
 pub mod ReportReading
 pub mod NameKeys
+pub mod ToldTexts

@@ -10,3 +10,4 @@ pub mod Report
 pub mod Rows
 pub mod Views
 pub mod Steps
+pub mod Told

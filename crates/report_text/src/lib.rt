@@ -16,6 +16,6 @@ mod sections;
 mod texts;
 mod words;
 
-pub use laws::texts_are_unique;
+pub use laws::{texts_are_unique, told_reports_read_back};
 pub use reading::{Report, ReportFault, read_report};
 pub use report::{Final, shown, write_report};
