@@ -1,4 +1,5 @@
 pub mod CommandLineLemmas
 pub mod Shortness
 pub mod SerialReportLemmas
+pub mod told
 pub mod RunLemmas

@@ -17,15 +17,16 @@ use Rattle.block_store.specs.declared.store.Store.{Ghosts}
 use Rattle.bay_device.specs.declared.bay.Bay.{Bay}
 use Rattle.bay_device.specs.Handling.{count_faults}
 use Rattle.script_text.specs.Script.{Script}
-use Rattle.script_text.specs.Ranges.{IsScript}
+use Rattle.script_text.specs.Ranges.{IsScript, all_jobs}
 use Rattle.script_text.specs.Weights.{total}
 use Rattle.histories.specs.Bounds.{IsPlayable}
-use Rattle.histories.specs.History.{turns_of}
+use Rattle.histories.specs.History.{faults_in, turns_of}
 use Rattle.histories.proofs.bounds.Quotas.{totals_cover_requests}
 use Rattle.histories.proofs.causes.HostCauses.{causes_are_met}
 use Rattle.histories.proofs.completeness.CompleteHistory.{unrefused_jobs_are_done}
 use Rattle.histories.proofs.completeness.CompleteSteps.{unrefused_attempts_go_on}
 use Rattle.report_text.specs.Report.{ReportOf, report_text}
+use Rattle.report_text.specs.Told.{IsTold}
 use Rattle.report_text.specs.Views.{report_in}
 use Rattle.load_maker.specs.Load.{load_script}
 use Rattle.load_maker.specs.Summary.{summary_text}
@@ -51,7 +52,10 @@ use Rattle.schedule_play.proofs.ContentLemmas.{contents-whole}
 use Rattle.array_cli.specs.SerialReports.{IsSerialReport}
 use Rattle.array_cli.specs.declared.run.Outcome.{Outcome}
 use Rattle.array_cli.specs.Runs.{handed_out, journal_of, AllTell, HasFailedBy, HasPlayed, HasStopped, HasCalled, HasLoaded, IsLoad, IsCall, IsEmpty, IsIdle, IsOpened, IsPlayed, IsRead, IsReported}
+use Rattle.array_cli.specs.Moments.{AreTimely}
 use Rattle.array_cli.proofs.SerialReportLemmas.{serial-report}
+use Rattle.array_cli.proofs.told.PlayMoments.{moments_are_bounded}
+use Rattle.array_cli.proofs.told.ToldReports.{reports_have_texts}
 use Rattle.array_cli.specs.Parts.{HasEnded, HasPrinted, IsFinished, IsRefused, IsUnplayed}
 
 pub playable : (script : Script) → IsScript script → IsPlayable script
@@ -282,11 +286,11 @@ module _ {K D : Type 0} (k : SinkGhosts K) (g : Ghosts D) where
   stopped-played script sink stores outcome print NotYet h = absurd h
 
   -- the report was printed, or a part of it
-  pub reported-played : Whole g → (script : Script) → IsScript script → total script ≤ 2 ^ 20 → (sink after : K) (stores : List D) (now : World D g) (outcome : Outcome D) (print : ReportOf → List ℕ) →
+  pub reported-played : Whole g → (script : Script) → IsScript script → length (all_jobs script) < 2 ^ 32 → total script ≤ 2 ^ 20 → (sink after : K) (stores : List D) (now : World D g) (outcome : Outcome D) (print : ReportOf → List ℕ) →
       IsFinished g script stores now → IsHandedOut now outcome →
       HasPrinted k (print (report_in script now.gathered.results.items now.gathered.contents.items now.turns.items now.gathered.cells.items now.gathered.opened.items)) sink after outcome.status →
       HasPlayed k g print script sink after stores outcome outcome.status
-  reported-played whole script is few sink after stores now outcome print f out printed = go outcome.status printed
+  reported-played whole script is jobs few sink after stores now outcome print f out printed = go outcome.status printed
     where
       report : ReportOf
       report = report_in script now.gathered.results.items now.gathered.contents.items now.turns.items now.gathered.cells.items now.gathered.opened.items
@@ -300,8 +304,10 @@ module _ {K D : Type 0} (k : SinkGhosts K) (g : Ghosts D) where
           let same : report ≡ report_of script f.history = report-of script is f.history now f.shows end.1 in
           let play : IsPlayed script (handed_out g outcome) f.history =
           is-played whole script is few f.history now outcome f.shows end.0 (ap (λ (r : _). r.items) out.results ∙ end.1.results) out in
+          let timely : AreTimely f.history = subst AreTimely (sym end.0.played) (moments_are_bounded script (faults_in f.history) (all_requests script) is) in
           record {
             serial = subst (λ (r : ReportOf). IsSerialReport script r) (sym same) (serial-report script f.history is play.headline.serial);
+            told = subst IsTold (sym same) (reports_have_texts script f.history is jobs few (f.shows.told end.0.told) end.0.over timely);
             history = f.history;
             input_output = same;
             played = play;

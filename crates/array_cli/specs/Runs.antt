@@ -16,6 +16,7 @@ use Rattle.script_text.specs.Faults.{fault_in}
 use Rattle.script_text.specs.Ranges.{IsScript}
 use Rattle.script_text.specs.Weights.{total}
 use Rattle.report_text.specs.Report.{ReportOf, report_text}
+use Rattle.report_text.specs.Told.{IsTold}
 use Rattle.histories.specs.Completeness.{UnrefusedAreDone, UnrefusedGoOn}
 use Rattle.load_maker.specs.Load.{load_script}
 use Rattle.load_maker.specs.Summary.{summary_text}
@@ -52,9 +53,10 @@ pub record IsPlayed (script : Script) (outcome : PlayOutcome) (history : List Ca
   pub unrefused : UnrefusedAreDone script history
   pub alone : LoneJobsAreDone script history
 
--- and its report, whose results and blocks are those of an array without devices
+-- and its report, whose results and blocks are those of an array without devices, and whose text is read back as what it tells
 pub record IsReported (script : Script) (outcome : PlayOutcome) (report : ReportOf) : Type 0 where
   pub serial : IsSerialReport script report
+  pub told : IsTold report
   pub history : List Call
   pub input_output : report ≡ report_of script history
   pub played : IsPlayed script outcome history

@@ -28,7 +28,8 @@ returns-in-Ok-played g c =
     let world = c.in-Ok-played.world in
     let f = c.in-Ok-played.ensures.finished in
     loaded g.K.Sink g.D.Store c.args.n c.in-Ok.script c.args.sink.now c.summed.new.sink c.args.stores.items c.summed.result c.in-Ok.ensures
-    (reported-played g.K.Sink g.D.Store g.met.D.Store.whole c.in-Ok.script (subst IsScript (sym c.in-Ok.ensures) (load-is-script c.args.n)) (omega (arith, ap total c.in-Ok.ensures, load-weight c.args.n, c.requires.most)) c.args.sink.now c.summed.new.sink c.args.stores.items world c.summed.result (summary_text c.args.n) f
+    (reported-played g.K.Sink g.D.Store g.met.D.Store.whole c.in-Ok.script (subst IsScript (sym c.in-Ok.ensures) (load-is-script c.args.n))
+    (omega (arith, ap (λ (s : Script). length (all_jobs s)) c.in-Ok.ensures, load-count c.args.n, c.requires.most)) (omega (arith, ap total c.in-Ok.ensures, load-weight c.args.n, c.requires.most)) c.args.sink.now c.summed.new.sink c.args.stores.items world c.summed.result (summary_text c.args.n) f
     (record { journals = c.summed.ensures.journals; results = c.summed.ensures.results; turns = c.summed.ensures.turns; stores = c.summed.ensures.stores })
     (subst (λ (s : Script). HasPrinted g.K.Sink
     (summary_text c.args.n (report_in s world.gathered.results.items world.gathered.contents.items world.turns.items world.gathered.cells.items world.gathered.opened.items))

@@ -11,7 +11,7 @@ pub returns-in-Ok : goal.returns-in-Ok
 returns-in-Ok g c =
     let world = c.in-Ok.world in
     let f = c.in-Ok.ensures.finished in
-    reported-played g.K.Sink g.D.Store g.met.D.Store.whole c.args.script.now c.requires.script c.requires.few c.args.sink.now c.reported.new.sink c.args.stores.items world c.reported.result report_text f
+    reported-played g.K.Sink g.D.Store g.met.D.Store.whole c.args.script.now c.requires.script c.requires.jobs c.requires.few c.args.sink.now c.reported.new.sink c.args.stores.items world c.reported.result report_text f
     (record { journals = c.reported.ensures.journals; results = c.reported.ensures.results; turns = c.reported.ensures.turns; stores = c.reported.ensures.stores })
     (subst (λ (s : Script). HasPrinted g.K.Sink
     (report_text (report_in s world.gathered.results.items world.gathered.contents.items world.turns.items world.gathered.cells.items world.gathered.opened.items))
