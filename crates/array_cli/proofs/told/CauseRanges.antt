@@ -104,23 +104,23 @@ module _ (script : Script) (is : IsScript script) where
       told-after (IsBay first × IsBay second) (IsLackingAt script task second) (IsMissingAt first)
       (λ call earlier c rest p q. (told-by (IsBay first) (IsMissingAt first) (λ other d m. bay-in other first d m.0) earlier rest q, bay-in call second c p.0.0)) calls all h
 
-  pub cause-in : (host : HostNo) (e : Ending) (cause : Cause) → AllByRecursion (CallIn script) e.calls → IsCauseIn script host e cause → is_spent cause ≡ false → IsCause (cause_told cause)
-  cause-in host e (causes.Busy holder) all h left =
+  pub cause-in : (history : List Call) (host : HostNo) (e : Ending) (cause : Cause) → AllByRecursion (CallIn script) e.calls → IsCauseIn script history host e cause → is_spent cause ≡ false → IsCause (cause_told cause)
+  cause-in history host e (causes.Busy holder) all h left =
       told-by (IsHolder (note_told holder)) (Answers (replies.Busy holder)) (λ call c p. holder-in holder (named-in call (replies.Busy holder) c p)) e.calls all h
-  cause-in host e (causes.Late above) all h left =
+  cause-in history host e (causes.Late above) all h left =
       told-by (IsFloor above) (Answers (replies.Late above)) (λ call c p. shows call (replies.Late above) above c p refl) e.calls all h
-  cause-in host e (causes.Young note) all h left =
+  cause-in history host e (causes.Young note) all h left =
       told-by (IsHolder (note_told note)) (Answers (replies.Young note)) (λ call c p. holder-in note (named-in call (replies.Young note) c p)) e.calls all h
-  cause-in host e (causes.Behind floor) all h left =
+  cause-in history host e (causes.Behind floor) all h left =
       told-by (IsFloor floor) (IsFloorFrom floor) (λ call c p. shows call (replies.Missing floor) floor c p.0 refl) e.calls all h.2
-  cause-in host e (causes.Fault bay) all h left =
+  cause-in history host e (causes.Fault bay) all h left =
       told-by (IsBay bay) (λ call. (call.bay ≡ bay) × Answers replies.Fault call) (λ call c p. bay-in call bay c p.0) e.calls all h
-  cause-in host e (causes.Broken first second) all h left = broken-in e.job.task first second e.calls all h.0
-  cause-in host e (causes.Gone bay) all h left = gone-in host bay e.job.task e.calls all h
-  cause-in host e (causes.Changed row) all h left = changed-in e.job.task row e.calls all h
-  cause-in host e (causes.Released row) all h left =
+  cause-in history host e (causes.Broken first second) all h left = broken-in e.job.task first second e.calls all h.0
+  cause-in history host e (causes.Gone bay) all h left = gone-in host bay e.job.task e.calls all h
+  cause-in history host e (causes.Changed row) all h left = changed-in e.job.task row e.calls all h
+  cause-in history host e (causes.Released row) all h left =
       told-by (IsRow row) (IsReleaseIn row) (λ call c p. low-row row (askable call (requests.Release row p.0 (Some p.1)) c p.2).0) e.calls all h.2
-  cause-in host e (causes.Seized row) all h left =
+  cause-in history host e (causes.Seized row) all h left =
       told-by (IsRow row) (IsPutIn row) (λ call c p. low-row row (askable call (requests.Put row p.0 p.1 p.2) c p.3).0) e.calls all h
-  cause-in host e (causes.Spent seen) all h left = absurd (cc)
-  cause-in host e causes.Quit all h left = tt
+  cause-in history host e (causes.Spent seen) all h left = absurd (cc)
+  cause-in history host e causes.Quit all h left = tt

@@ -47,7 +47,7 @@ module _ (script : Script) (is : IsScript script) (history : List Call) (host : 
   pub record Known (e : Ending) : Type 0 where
     pub ends : EndsIn script host e
     pub filled : IsFilled e
-    pub met : MeetsCause script host e e.ended
+    pub met : MeetsCause script history host e e.ended
     pub numbers : HasNumbers e
     pub calls : AllByRecursion (CallIn script) e.calls
     pub reads : EndingIn script is e
@@ -128,15 +128,15 @@ module _ (script : Script) (is : IsScript script) (history : List Call) (host : 
     unspent : (b : Bool) → (x : JobEnd) → e.ended ≡ x → wants_numbers x ≡ b → b ≡ false
     unspent b x at is_b = sym is_b ∙ ap wants_numbers (sym at) ∙ k.numbers
 
-    met-by : (ended : JobEnd) → e.ended ≡ ended → MeetsCause script host e ended
-    met-by ended at = subst (λ (x : JobEnd). MeetsCause script host e x) at k.met
+    met-by : (ended : JobEnd) → e.ended ≡ ended → MeetsCause script history host e ended
+    met-by ended at = subst (λ (x : JobEnd). MeetsCause script history host e x) at k.met
 
     -- a part
     part-told : (n : Number) (made : ℕ) (cause : Cause) → e.ended ≡ ends.Part n made cause → (task : Task) → e.job.task ≡ task → IsTask script host task →
         EndsSo task (closes.Part n made cause) → Told (ends.Part n made cause)
     part-told n made cause at (tasks.Write object first from count) same own so =
         let why : IsCause (cause_told cause) =
-        cause-in script is host e cause k.calls (met-by (ends.Part n made cause) at) (unspent (is_spent cause) (ends.Part n made cause) at refl) in
+        cause-in script is history host e cause k.calls (met-by (ends.Part n made cause) at) (unspent (is_spent cause) (ends.Part n made cause) at refl) in
         subst (λ (t : Task). IsEnd (end_told (ends.Part n made cause)) e.contents (flag_count (ends.Part n made cause) (task_blocks t))) (sym same)
         (no-number n so.1, record { some = own.some; few = own.few; within = so.0 }, why, none-read (ends.Part n made cause) at refl)
     part-told n made cause at (tasks.Read object first count) same own so = absurd so.0
@@ -184,7 +184,7 @@ module _ (script : Script) (is : IsScript script) (history : List Call) (host : 
         let met = met-by (ends.Gave tries cause) at in (
           (
             record { low = plain-by (ends.Gave tries cause) at; high = few-tries tries cause met.2 },
-            cause-in script is host e cause k.calls met.0 (unspent (is_spent cause) (ends.Gave tries cause) at refl),
+            cause-in script is history host e cause k.calls met.0 (unspent (is_spent cause) (ends.Gave tries cause) at refl),
           ),
           none-read (ends.Gave tries cause) at refl,
           refl,

@@ -69,7 +69,7 @@ module _ (script : Script) (history : List Call) (is : IsScript script) (few : l
       known e in_es = record {
         ends = all-in (EndsIn script host) e (endings_at script history host) (ends-in script is host history) in_es;
         filled = all-in IsFilled e (endings_at script history host) (endings_are_filled script history host is).filled in_es;
-        met = all-in (λ (x : Ending). MeetsCause script host x x.ended) e (endings_at script history host) (causes_are_met script history is along host) in_es;
+        met = all-in (λ (x : Ending). MeetsCause script history host x x.ended) e (endings_at script history host) (causes_are_met script history is along host) in_es;
         numbers = all-in HasNumbers e (endings_at script history host) ((numbers_stay_small script history is light along).2 host) in_es;
         calls = all-in (λ (x : Ending). AllByRecursion (CallIn script) x.calls) e (endings_at script history host) (endings-in script is light history along host) in_es;
         reads = all-in (EndingIn script is) e (endings_at script history host)
