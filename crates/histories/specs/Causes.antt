@@ -124,9 +124,12 @@ IsPutIn row call = (id : Number) × (n : Number) × (cell : Cell) × (call.ask.w
 abbrev pub ComesWith : Script → HostNo → Ending → List Call → Type 0
 ComesWith script host e [] = Contains (endings_at script [] host) e
 ComesWith script host e (call ∷ earlier) =
-    (new : List Ending) × (endings_at script (call ∷ earlier) host ≡ endings_at script earlier host ++ new) × Contains new e
+    (new : List Ending)
+    × (endings_at script (call ∷ earlier) host ≡ endings_at script earlier host ++ new)
+    × Contains new e
 
--- told the newest of these calls, the attempt in hand draws a number: it has made these requests, and its host has seen this much
+-- told the newest of these calls, the attempt in hand draws a number:
+-- it has made these requests, the newest first, and its host has seen this much
 abbrev pub DrawsAfter : Script → HostNo → Number → List Call → List Call → Type 0
 DrawsAfter script host seen [] made = ⊥
 DrawsAfter script host seen (call ∷ earlier) made =
@@ -134,13 +137,15 @@ DrawsAfter script host seen (call ∷ earlier) made =
     (made ≡ call ∷ p.calls) × (seen ≡ sees p.seen call.answer.reply)
     × (steps : Steps Finish) × (p.work ≡ Trying steps) × (draws (behind steps call.answer.reply) ≡ true)
 
--- the job's last attempt has no id, so that it makes no request, and its host has seen this much
+-- the job's last attempt gets no id, so it makes no request, and its host has seen this much
 abbrev pub HasNoId : Script → HostNo → Ending → Number → List Call → Type 0
-HasNoId script host e seen now = (e.calls ≡ []) × ComesWith script host e now × (seen ≡ (progress_at script host now).seen)
+HasNoId script host e seen now =
+    (e.calls ≡ []) × ComesWith script host e now × (seen ≡ (progress_at script host now).seen)
 
--- the host draws for the job's last attempt, a number after some of its requests or its id
+-- the host draws for the job's last attempt: a number after some of its requests, or its id
 abbrev pub IsDraw : Script → HostNo → Ending → Number → List Call → Type 0
-IsDraw script host e seen now = Sometime (DrawsAfter script host seen now) e.calls ⊎ HasNoId script host e seen now
+IsDraw script host e seen now =
+    Sometime (DrawsAfter script host seen now) e.calls ⊎ HasNoId script host e seen now
 
 -- the cause stands in the calls of the job's last attempt, or in one of its draws
 abbrev pub IsCauseIn : Script → List Call → HostNo → Ending → Cause → Type 0
@@ -154,7 +159,8 @@ IsCauseIn script history host e (causes.Gone bay) = IsGone script host bay e.job
 IsCauseIn script history host e (causes.Changed row) = IsChanged script e.job.task row e.calls
 IsCauseIn script history host e (causes.Released row) = (script.mode ≡ Lock) × IsRead e.job.task × Happened (IsReleaseIn row) e.calls
 IsCauseIn script history host e (causes.Seized row) = Happened (IsPutIn row) e.calls
-IsCauseIn script history host e (causes.Spent seen) = IsNone (next_number host seen) × Sometime (IsDraw script host e seen) history
+IsCauseIn script history host e (causes.Spent seen) =
+    IsNone (next_number host seen) × Sometime (IsDraw script host e seen) history
 IsCauseIn script history host e causes.Quit = e.job.quit ≡ Some e.asked
 
 -- a job is given up after all its tries, unless its host stops or numbers are spent
