@@ -1,5 +1,5 @@
 -- What a run needs and leaves.
-use Rattle.std.proofs.Common.{◌≡◌, ℕ, zero, suc, ◌+◌, ◌^◌, ◌<◌, ◌≤◌, ◌++◌, Bool, Option, List, [], ◌∷◌, length, map, drop, get_or, inl, inr, refl, sym, ap, subst, ◌∙◌, arith, IsTrue}
+use Rattle.std.proofs.Common.{◌≡◌, ℕ, zero, suc, ◌+◌, ◌-◌, ◌^◌, ◌<◌, ◌≤◌, ◌++◌, Bool, Option, List, [], ◌∷◌, length, map, drop, get_or, inl, inr, refl, sym, ap, subst, ◌∙◌, arith, IsTrue}
 use Rattle.std.specs.Prelude.{flat_map}
 use Rattle.raid_base.specs.declared.status.Status.{Status}
 use Rattle.raid_base.specs.declared.status.Status.TheVariants.{Done, Words, ReadFault, TooLong, BadScript, TooMuch, TooFewStores, TooSmall, StoreFault, WriteFault, Memory, NotYet}
@@ -33,7 +33,7 @@ use Rattle.load_maker.specs.Summary.{summary_text}
 use Rattle.std.specs.Vec.{vec_len, vec_capacity}
 use Rattle.schedule_play.specs.declared.gathering.Gathered.{Gathered}
 use Rattle.schedule_play.specs.World.{AreOver, Keeps, Shows, IsReady, all_requests}
-use Rattle.schedule_play.specs.Making.{AreBack, AreLarge, IsRefusal, stores_of}
+use Rattle.schedule_play.specs.Making.{AreBack, AreLarge, IsHalted, IsRefusal, stores_of}
 use Rattle.schedule_play.specs.Gathering.{IsBlank, IsClosable, IsGathered}
 use Rattle.schedule_play.specs.Rows.{HasFailed, cells_after}
 use Rattle.histories.specs.Stored.{StoresHold}
@@ -64,13 +64,6 @@ playable script is = record { ranges = is }
 -- a store that tells its blocks tells all
 abbrev pub Whole : {D : Type 0} → Ghosts D → Type 0
 Whole {D} g = (store : D) → IsTrue (g.tells store) → length (g.content store) ≡ g.size store
-
-same-back : {D : Type 0} (size faults : D → ℕ) (n : ℕ) (stores back : List D) → back ≡ stores → AreBack size faults n stores back
-same-back {D} size faults n stores back same = subst (λ (xs : List D). AreBack size faults n stores xs) (sym same) (record {
-  count = refl;
-  each = λ at d inside. record { size_is = refl; faults_least = grind (arith) };
-  others = refl;
-})
 
 rises-plain : (n before now : ℕ) → RisesBy n before now → RisesBy (n + 0) before now
 rises-plain n before now r = subst (λ (m : ℕ). RisesBy m before now) (let e : n ≡ n + 0 = omega arith in e) r
@@ -233,7 +226,7 @@ module _ {D : Type 0} {g : Ghosts D} where
 module _ {D : Type 0} (g : Ghosts D) where
   -- no world was made
   pub refused-stops : (script : Script) (stores : List D) (fault : WorldFault D) (outcome : Outcome D) →
-      IsRefusal g.size g.faults script.n script.rows stores fault → IsRefused script.n fault outcome → IsUnplayed g script stores outcome
+      IsRefusal g script.n script.rows stores fault → IsRefused script.n fault outcome → IsUnplayed g script stores outcome
   refused-stops script stores (faults.TooFew back) outcome is out =
       let given : back.items ≡ stores = is.1 in
       let few : length back.items < script.n = omega (arith, is.0, ap length given) in
@@ -243,10 +236,10 @@ module _ {D : Type 0} (g : Ghosts D) where
       subst (HasStopped g script stores outcome) (sym out.2) (record { stores_back = ap (λ (v : _). v.items) out.1 ∙ is.1; empty = out.0 }, is.0)
   refused-stops script stores (faults.NoMemory back) outcome is out =
       let same : outcome.stores.items ≡ back.items = ap (λ (v : _). v.items) out.1 in
-      subst (HasStopped g script stores outcome) (sym out.2) (subst (λ (xs : List D). AreBack g.size g.faults script.n stores xs) (sym same) is.1, out.0)
+      subst (HasStopped g script stores outcome) (sym out.2) (subst (λ (xs : List D). AreBack g script.n stores xs) (sym same) is.1, out.0, ap (λ (xs : List D). drop (script.n - 1) xs) same ∙ is.2)
   refused-stops script stores (faults.Fault bay back) outcome is out =
       let same : outcome.stores.items ≡ back.items = ap (λ (v : _). v.items) out.1 in
-      let all : AreBack g.size g.faults script.n stores outcome.stores.items = subst (λ (xs : List D). AreBack g.size g.faults script.n stores xs) (sym same) is.1 in
+      let all : AreBack g script.n stores outcome.stores.items = subst (λ (xs : List D). AreBack g script.n stores xs) (sym same) is.1 in
       let none : (at : ℕ) → count_faults (journal_of outcome at) ≡ 0 = no-journal outcome out.0 in
       let enough = is.0.enough in
       subst (HasStopped g script stores outcome) (sym out.2) (
@@ -258,12 +251,13 @@ module _ {D : Type 0} (g : Ghosts D) where
               (all.each at d (omega (arith, below, enough))).faults_least;
         },
         is.2,
-        inl (
-          out.0,
-          λ d.
+        inl (record {
+          empty = out.0;
+          failed = λ d.
               subst (λ (n : ℕ). RisesBy (n + 1) (g.faults (get_or stores bay.0 d)) (g.faults (get_or outcome.stores.items bay.0 d))) (sym (none bay.0))
-              (subst (λ (xs : List D). Rises (g.faults (get_or stores bay.0 d)) (g.faults (get_or xs bay.0 d))) (sym same) (is.3 d)),
-        ),
+              (subst (λ (xs : List D). Rises (g.faults (get_or stores bay.0 d)) (g.faults (get_or xs bay.0 d))) (sym same) (is.3.failed d).rises);
+          halted = subst (λ (xs : List D). IsHalted g script.rows bay.0 stores xs) (sym same) is.3;
+        }),
       ) where
         no-journal : (outcome : Outcome D) → IsEmpty outcome → (at : ℕ) → count_faults (journal_of outcome at) ≡ 0
         no-journal outcome empty at = ap (λ (js : List _). count_faults (get_or (map (λ journal. journal.items) js) at [])) empty.journals

@@ -1,5 +1,5 @@
 -- A call of the program: what it has read, played and printed, and why it has ended so.
-use Rattle.std.specs.Prelude.{◌≡◌, ◌⊎◌, ℕ, ◌+◌, ◌^◌, ◌<◌, ◌≤◌, ◌++◌, true, IsTrue, List, [], Option, Some, None, length, map, slice_index_or}
+use Rattle.std.specs.Prelude.{◌≡◌, ◌⊎◌, ℕ, ◌+◌, ◌-◌, ◌^◌, ◌<◌, ◌≤◌, ◌++◌, true, IsTrue, List, [], Option, Some, None, length, map, slice_index_or}
 use Rattle.raid_base.specs.declared.messages.Call.{Call}
 use Rattle.raid_base.specs.declared.messages.Entry.{Entry}
 use Rattle.raid_base.specs.declared.status.Status.{Status}
@@ -21,7 +21,7 @@ use Rattle.histories.specs.Completeness.{UnrefusedAreDone, UnrefusedGoOn}
 use Rattle.load_maker.specs.Load.{load_script}
 use Rattle.load_maker.specs.Summary.{summary_text}
 use Rattle.schedule_play.specs.World.{EachAt}
-use Rattle.schedule_play.specs.Making.{AreBack, AreLarge, IsFirstSmall}
+use Rattle.schedule_play.specs.Making.{AreBack, AreLarge, AreUntouchedFrom, IsFirstSmall, IsHalted}
 use Rattle.serial_laws.specs.Contents.{AreContentsShown}
 use Rattle.attempt_laws.specs.Lone.{LoneJobsAreDone}
 use Rattle.serial_laws.specs.Headline.{Outcome as PlayOutcome, Headline}
@@ -93,8 +93,14 @@ HasFailedBy {D} g more at stores outcome =
 -- the stores were enough and large enough. They come back in order, and no bay has answered Fault more often than its store has failed
 pub record IsOpened {D : Type 0} (g : StoreGhosts D) (script : Script) (stores : List D) (outcome : Outcome D) : Type 0 where
   pub large : AreLarge g.size script.n script.rows stores
-  pub stores_back : AreBack g.size g.faults script.n stores outcome.stores.items
+  pub stores_back : AreBack g script.n stores outcome.stores.items
   pub faults : (at : ℕ) → at < script.n → HasFailedBy g 0 at stores outcome
+
+-- this store failed before the first request, and no play is handed out
+pub record IsUnopened {D : Type 0} (g : StoreGhosts D) (script : Script) (at : ℕ) (stores : List D) (outcome : Outcome D) : Type 0 where
+  pub empty : IsEmpty outcome
+  pub failed : HasFailedBy g 1 at stores outcome
+  pub halted : IsHalted g script.rows at stores outcome.stores.items
 
 -- the final reading met a store that fails: all but the report is there
 pub record IsUnread {D : Type 0} (g : StoreGhosts D) (script : Script) (at : ℕ) (stores : List D) (outcome : Outcome D) : Type 0 where
@@ -107,8 +113,9 @@ HasStopped g script stores outcome (TooFewStores have need) = IsUntouched stores
 HasStopped g script stores outcome (TooSmall bay) = IsUntouched stores outcome × IsFirstSmall g.size script.n script.rows bay.0 stores
 HasStopped g script stores outcome (StoreFault bay) =
     IsOpened g script stores outcome × (bay.0 < script.n)
-    × ((IsEmpty outcome × HasFailedBy g 1 bay.0 stores outcome) ⊎ IsUnread g script bay.0 stores outcome)
-HasStopped g script stores outcome Memory = AreBack g.size g.faults script.n stores outcome.stores.items × IsEmpty outcome
+    × (IsUnopened g script bay.0 stores outcome ⊎ IsUnread g script bay.0 stores outcome)
+HasStopped g script stores outcome Memory =
+    AreBack g script.n stores outcome.stores.items × IsEmpty outcome × AreUntouchedFrom (script.n - 1) stores outcome.stores.items
 HasStopped g script stores outcome _ = ⊥
 
 -- The playing of a script over some stores, and what was printed of its report

@@ -1,6 +1,6 @@
 -- What a bay keeps from ask to ask, and what it shows.
-use Rattle.std.proofs.Common.{◌≡◌, ◌∙◌, ℕ, ◌+◌, ◌<◌, ◌≤◌, Result, Ok, Err, OnOk, is_err, Bool, true, false, if◌then◌else◌, List, [], ◌∷◌, ◌++◌, length, slice_index_or, Option, Some, None, is_some, is_none, refl, ap, sym, subst, arith}
-use Rattle.std.proofs.lemmas.List.{get_or_default}
+use Rattle.std.proofs.Common.{◌≡◌, ◌∙◌, ℕ, ◌+◌, ◌-◌, ◌<◌, ◌≤◌, Result, Ok, Err, OnOk, is_err, Bool, true, false, if◌then◌else◌, List, [], ◌∷◌, ◌++◌, length, drop, slice_index_or, slice_set, Option, Some, None, is_some, is_none, refl, ap, sym, subst, arith}
+use Rattle.std.proofs.lemmas.List.{get_or_default, drop-drop, drop-set-lt}
 use Rattle.raid_base.specs.declared.cells.Cell.{Cell}
 use Rattle.raid_base.specs.declared.messages.Ask.{Ask}
 use Rattle.raid_base.specs.declared.messages.Entry.{Entry}
@@ -70,3 +70,14 @@ look-shows table blocks row bytes lost l le some b m =
 pub on-ok : {T E : Type 0} (result : Result T E) (P : Type 0) → is_err result ≡ false → OnOk result P → P
 on-ok (Ok x) P h p = p
 on-ok (Err e) P h p = cc
+
+-- blocks that agree from one place on agree from each later one on
+pub drop-later : (xs ys : List (List ℕ)) (i n : ℕ) → i ≤ n → drop i xs ≡ drop i ys → drop n xs ≡ drop n ys
+drop-later xs ys i n le e =
+    let same : i + (n - i) ≡ n = omega (arith, le) in
+    ap (λ (k : ℕ). drop k xs) (sym same) ∙ sym (drop-drop (n - i) i xs) ∙ ap (λ (zs : List (List ℕ)). drop (n - i) zs) e ∙ drop-drop (n - i) i ys ∙ ap (λ (k : ℕ). drop k ys) same
+
+-- and so they do behind a block that was written
+pub cleared-on : (blocks earlier later : List (List ℕ)) (i : ℕ) (bytes : List ℕ) → drop i blocks ≡ drop i earlier → later ≡ slice_set blocks i bytes → drop (i + 1) later ≡ drop (i + 1) earlier
+cleared-on blocks earlier later i bytes e written =
+    ap (λ (xs : List (List ℕ)). drop (i + 1) xs) written ∙ drop-set-lt (i + 1) blocks i bytes (omega arith) ∙ drop-later blocks earlier i (i + 1) (omega arith) e

@@ -1,5 +1,5 @@
 -- What a bay makes of an ask, and what it keeps.
-use Rattle.std.specs.Prelude.{ℕ, ◌+◌, ◌^◌, ◌<◌, if◌then◌else◌, List, [], ◌∷◌, Option}
+use Rattle.std.specs.Prelude.{◌≡◌, ℕ, drop, ◌+◌, ◌^◌, ◌<◌, if◌then◌else◌, List, [], ◌∷◌, Option}
 use Rattle.raid_base.specs.declared.cells.Cell.{Cell}
 use Rattle.raid_base.specs.declared.numbers.RowNo.{RowNo}
 use Rattle.raid_base.specs.declared.messages.Ask.{Ask}
@@ -22,6 +22,10 @@ pub record IsHandledSomehow (ask : Ask) (reply : Reply) (old new : Table) : Type
   pub blocks : List (List ℕ)
   pub later : List (List ℕ)
   pub is : Handled old blocks ask reply new later
+
+-- the blocks behind the first so many stay
+abbrev pub KeepsOthers : ℕ → List (List ℕ) → List (List ℕ) → Type 0
+KeepsOthers rows blocks later = drop rows later ≡ drop rows blocks
 
 -- how many replies are Fault
 abbrev pub count_faults : List Entry → ℕ

@@ -2,9 +2,10 @@
 ghost use Rattle.std.specs.Prelude.{◌≡◌, ◌≤◌, ◌<◌, ◌+◌, ◌^◌, List, ℕ, length, vec_len};
 ghost use Rattle.std.specs.Vec.{vec_capacity};
 ghost use Rattle.slot_rules.specs.Tables.{with_blocks};
-ghost use Rattle.std.specs.Prelude.{IsTrue, OnOk, IfOk, IfErr, is_err, take, replicate, [], ◌∷◌, ◌++◌, ◌-◌};
+ghost use Rattle.std.specs.Prelude.{IsTrue, OnOk, IfOk, IfErr, is_err, true, take, drop, replicate, [], ◌∷◌, ◌++◌, ◌-◌};
 ghost use Rattle.raid_base.specs.Cells.{zeros};
 ghost use Rattle.raid_base.specs.Counts.{HasCause};
+ghost use Rattle.bay_device.specs.Making.{IsCutOff};
 
 use crate::serve::serve;
 use block_store::Store;
@@ -49,6 +50,8 @@ fn clear<D: Store>(store: &mut D, rows: u16) -> Result<(), Failed>
     ensures tells { D.tells store.new ≡ D.tells store.old }
     ensures size { D.size store.new ≡ D.size store.old }
     ensures cause { HasCause (D.faults store.old) (D.faults store.new) (is_err result) }
+    ensures others { drop rows (D.content store.new) ≡ drop rows (D.content store.old) }
+    ensures cut_off { is_err result ≡ true → IsCutOff rows (D.content store.old) (D.content store.new) }
 {
     for row in 0..rows {
         store.write(RowNo(row), &[0; 64])?;
@@ -57,7 +60,7 @@ fn clear<D: Store>(store: &mut D, rows: u16) -> Result<(), Failed>
 }
 
 impl<D: Store> Bay<D> {
-    ghost use Rattle.std.specs.Prelude.{is_none, true};
+    ghost use Rattle.std.specs.Prelude.{is_none};
     ghost use Rattle.raid_base.specs.Replies.{is_fault};
     ghost use Rattle.raid_base.specs.Fits.{fits};
     ghost use Rattle.raid_base.specs.declared.numbers.RowNo.{RowNo};
@@ -65,7 +68,7 @@ impl<D: Store> Bay<D> {
     ghost use Rattle.slot_rules.specs.Tables.{lost_of};
     ghost use Rattle.slot_rules.specs.Handling.{Handled};
     ghost use Rattle.slot_rules.specs.Replay.{Replays, next_clock};
-    ghost use Rattle.bay_device.specs.Handling.{IsAskOfBay, IsHandledSomehow, RisesByFaults, cell_of_row};
+    ghost use Rattle.bay_device.specs.Handling.{IsAskOfBay, IsHandledSomehow, KeepsOthers, RisesByFaults, cell_of_row};
     ghost use Rattle.bay_device.specs.Making.{IsRefusal};
 
     /// A bay of so many rows that was asked nothing yet. Writes zeros to their blocks.
@@ -84,8 +87,9 @@ impl<D: Store> Bay<D> {
         ensures journal { IfOk result (λ bay. bay.journal.items ≡ []) }
         ensures cap { IfOk result (λ bay. bay.cap ≡ cap) }
         ensures store { IfOk result (λ bay. (D.tells bay.store ≡ D.tells store) × (D.size bay.store ≡ D.size store) × (D.faults store ≤ D.faults bay.store)) }
+        ensures others { IfOk result (λ bay. drop rows (D.content bay.store) ≡ drop rows (D.content store)) }
         ensures large { IfOk result (λ bay. rows ≤ D.size store) }
-        ensures refused { IfErr result (IsRefusal D.size D.faults rows store) }
+        ensures refused { IfErr result (IsRefusal D.Store rows store) }
     {
         if store.blocks() < rows as u32 {
             return Err(BayFault::TooSmall(store));
@@ -128,6 +132,7 @@ impl<D: Store> Bay<D> {
         ensures mode { (self.new.slots.state.mode ≡ self.old.slots.state.mode) × (self.new.slots.state.patience ≡ self.old.slots.state.patience) }
         ensures cause { HasCause (D.faults self.old.store) (D.faults self.new.store) (is_fault result.reply) }
         ensures store { (D.tells self.new.store ≡ D.tells self.old.store) × (D.size self.new.store ≡ D.size self.old.store) }
+        ensures others { KeepsOthers (length self.old.slots.slots) (D.content self.old.store) (D.content self.new.store) }
         ensures replays { IsTrue (D.tells self.old.store) → (first : BayState) (start : ℕ) → Replays first start self.old.journal.items (with_blocks self.old.slots (D.content self.old.store)) self.old.clock → Replays first start self.new.journal.items (with_blocks self.new.slots (D.content self.new.store)) self.new.clock }
         ensures faults { (opening : ℕ) → RisesByFaults self.old.journal.items opening (D.faults self.old.store) → RisesByFaults self.new.journal.items opening (D.faults self.new.store) }
     {

@@ -5,7 +5,7 @@ ghost use Rattle.raid_base.specs.Replies.{is_fault};
 ghost use Rattle.slot_rules.specs.Tables.{with_blocks};
 ghost use Rattle.slot_rules.specs.Serving.{IsAskFor, row_of, verdict_of};
 ghost use Rattle.slot_rules.specs.Handling.{Handled};
-ghost use Rattle.bay_device.specs.Handling.{IsHandledSomehow};
+ghost use Rattle.bay_device.specs.Handling.{IsHandledSomehow, KeepsOthers};
 ghost use Rattle.raid_base.specs.declared.numbers.Number.{Number};
 
 use block_store::Store;
@@ -26,6 +26,7 @@ fn serve_read<D: Store>(slots: &mut Slots, store: &mut D, row: RowNo, ask: &Ask)
     ensures cause { HasCause (D.faults store.old) (D.faults store.new) (is_fault result) }
     ensures tells { D.tells store.new ≡ D.tells store.old }
     ensures size { D.size store.new ≡ D.size store.old }
+    ensures others { KeepsOthers (length slots.old.slots) (D.content store.old) (D.content store.new) }
 {
     let lost = slots.mark(row);
     match store.read(row) {
@@ -54,6 +55,7 @@ fn serve_write<D: Store>(
     ensures cause { HasCause (D.faults store.old) (D.faults store.new) (is_fault result) }
     ensures tells { D.tells store.new ≡ D.tells store.old }
     ensures size { D.size store.new ≡ D.size store.old }
+    ensures others { KeepsOthers (length slots.old.slots) (D.content store.old) (D.content store.new) }
 {
     match store.write(row, &cell.bytes) {
         Ok(()) => slots.apply(ask, Some(*cell)),
@@ -73,6 +75,7 @@ pub fn serve<D: Store>(slots: &mut Slots, store: &mut D, ask: &Ask) -> Reply
     ensures cause { HasCause (D.faults store.old) (D.faults store.new) (is_fault result) }
     ensures tells { D.tells store.new ≡ D.tells store.old }
     ensures size { D.size store.new ≡ D.size store.old }
+    ensures others { KeepsOthers (length slots.old.slots) (D.content store.old) (D.content store.new) }
 {
     match slots.judge(ask) {
         Verdict::Say(_) => slots.apply(ask, None),

@@ -1,5 +1,5 @@
 -- What a closed world hands out: the journals and the stores of its history.
-use Rattle.std.proofs.Common.{◌≡◌, ℕ, ◌+◌, ◌<◌, ◌≤◌, zero, suc, List, [], ◌∷◌, ◌++◌, length, get_or, map, drop, Option, Some, None, refl, sym, ap, subst, ◌∙◌, arith, IsTrue, length-append}
+use Rattle.std.proofs.Common.{◌≡◌, ℕ, ◌<◌, ◌≤◌, zero, suc, List, [], ◌∷◌, ◌++◌, length, get_or, map, drop, Option, Some, None, refl, sym, ap, subst, ◌∙◌, arith, IsTrue, length-append}
 use Rattle.std.specs.Prelude.{slice_get}
 use Rattle.std.specs.List.{range_with_len}
 use Rattle.std.proofs.lemmas.List.{length-drop}
@@ -97,21 +97,21 @@ module _ {D : Type 0} {g : Ghosts D} where
       subst (λ (blocks : List (List ℕ)). HoldsBay script history (bay k) blocks) (sym at.is) at.holds
 
   -- all stores come back
-  back-of : (store : D) (now : Bay D g) → IsOver store now → IsBack g.size g.faults store now.store
-  back-of store now over = record { size_is = over.size; faults_least = rises-none-of (count_faults now.journal.items) _ _ over.faults }
+  back-of : (store : D) (now : Bay D g) → IsOver store now → IsBack g store now.store
+  back-of store now over = record { tells_is = over.tells; size_is = over.size; faults_least = rises-none-of (count_faults now.journal.items) _ _ over.faults }
 
   each-back : (bays : List (Bay D g)) (stores : List D) → length bays ≤ length stores → AreOver stores bays → (k : ℕ) (d : D) →
-      IsBack g.size g.faults (get_or stores k d) (get_or (stores_of bays ++ drop (length bays) stores) k d)
-  each-back [] stores few over k d = record { size_is = refl; faults_least = grind (arith) }
+      IsBack g (get_or stores k d) (get_or (stores_of bays ++ drop (length bays) stores) k d)
+  each-back [] stores few over k d = record { tells_is = refl; size_is = refl; faults_least = grind (arith) }
   each-back (b ∷ bays) [] few over k d = absurd (omega (arith, few))
   each-back (b ∷ bays) (s ∷ stores) few over zero d = back-of s b (over 0 s b (omega arith))
   each-back (b ∷ bays) (s ∷ stores) few over (suc k) d = each-back bays stores (omega (arith, few)) (λ j x y inside. over (suc j) x y (omega (arith, inside))) k d
 
   pub closed-back : (n : ℕ) (stores : List D) (bays : List (Bay D g)) (others back : List D) → AreOver stores bays → length bays ≡ n → n ≤ length stores → others ≡ drop n stores →
-      back ≡ stores_of bays ++ others → AreBack g.size g.faults n stores back
+      back ≡ stores_of bays ++ others → AreBack g n stores back
   closed-back n stores bays others back over count few rest all =
       let same : back ≡ stores_of bays ++ drop (length bays) stores = all ∙ ap (λ (xs : List D). stores_of bays ++ xs) (rest ∙ ap (λ (m : ℕ). drop m stores) (sym count)) in
-      subst (λ (xs : List D). AreBack g.size g.faults n stores xs) (sym same) (record {
+      subst (λ (xs : List D). AreBack g n stores xs) (sym same) (record {
         count = omega (arith, length-append (stores_of bays) (drop (length bays) stores), length-stores bays, length-drop (length bays) stores, count, few);
         each = λ k d inside. each-back bays stores (omega (arith, count, few)) over k d;
         others = ap (λ (m : ℕ). drop m (stores_of bays ++ drop (length bays) stores)) (sym (length-stores bays ∙ count))

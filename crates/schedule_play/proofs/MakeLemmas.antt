@@ -233,10 +233,13 @@ none-risen before now h = omega (arith, min-le_left (before + 0) (2 ^ 64 - 1))
 pub rises-none : (before now : ℕ) → Rises before now → RisesBy 0 before now
 rises-none before now h = grind (arith)
 
--- all stores come back, and the count that rose is the one of that store
-pub record IsPutBack {D : Type 0} (size faults : D → ℕ) (n : ℕ) (given back : List D) (store failed : D) (k : ℕ) : Type 0 where
-  pub back_is : AreBack size faults n given back
-  pub rises : Rises (faults store) (faults failed) → (d : D) → Rises (faults (get_or given k d)) (faults (get_or back k d))
+-- all stores come back, the one that was refused at its place
+pub record IsPutBack {D : Type 0} (g : Ghosts D) (n : ℕ) (given back : List D) (store failed : D) (k : ℕ) : Type 0 where
+  pub back_is : AreBack g n given back
+  pub was : (d : D) → get_or given k d ≡ store
+  pub now : (d : D) → get_or back k d ≡ failed
+  pub behind : drop (k + 1) back ≡ drop (k + 1) given
+  pub unopened : failed ≡ store → drop (n - 1) back ≡ drop (n - 1) given
 
 module _ {D : Type 0} {g : Ghosts D} where
   pub made-push : (script : Script) (cap : ℕ) (given : List D) (bays : List (Bay D g)) (new : Bay D g) (store : D) (k : ℕ) → length bays ≡ k → ((d : D) → get_or given k d ≡ store) →
@@ -248,13 +251,13 @@ module _ {D : Type 0} {g : Ghosts D} where
 
   -- the stores of the bays, the one that was refused, and the rest
   back-each : (script : Script) (cap : ℕ) (bays : List (Bay D g)) (given : List D) (store failed : D) (tail : List D) → AreMade script cap given bays → drop (length bays) given ≡ store ∷ tail →
-      IsBack g.size g.faults store failed → (j : ℕ) (d : D) → IsBack g.size g.faults (get_or given j d) (get_or (stores_of bays ++ failed ∷ tail) j d)
-  back-each script cap [] given store failed tail made e back zero d = subst (λ (xs : List D). IsBack g.size g.faults (get_or xs 0 d) failed) (sym e) back
+      IsBack g store failed → (j : ℕ) (d : D) → IsBack g (get_or given j d) (get_or (stores_of bays ++ failed ∷ tail) j d)
+  back-each script cap [] given store failed tail made e back zero d = subst (λ (xs : List D). IsBack g (get_or xs 0 d) failed) (sym e) back
   back-each script cap [] given store failed tail made e back (suc j) d =
-      subst (λ (xs : List D). IsBack g.size g.faults (get_or xs (suc j) d) (get_or tail j d)) (sym e) (record { size_is = refl; faults_least = none-risen _ _ (omega arith) })
+      subst (λ (xs : List D). IsBack g (get_or xs (suc j) d) (get_or tail j d)) (sym e) (record { tells_is = refl; size_is = refl; faults_least = none-risen _ _ (omega arith) })
   back-each script cap (b ∷ bays) [] store failed tail made e back j d = absurd (cc)
   back-each script cap (b ∷ bays) (s ∷ given) store failed tail made e back zero d =
-      let m = made 0 s b (omega arith) in record { size_is = m.size; faults_least = none-risen _ _ m.faults }
+      let m = made 0 s b (omega arith) in record { tells_is = m.tells; size_is = m.size; faults_least = none-risen _ _ m.faults }
   back-each script cap (b ∷ bays) (s ∷ given) store failed tail made e back (suc j) d =
       back-each script cap bays given store failed tail (λ k x y l. made (suc k) x y (omega (arith, l))) e back j d
 
@@ -270,13 +273,22 @@ module _ {D : Type 0} {g : Ghosts D} where
   back-others (suc n) (b ∷ bays) [] store failed tail e below = absurd (cc)
   back-others (suc n) (b ∷ bays) (s ∷ given) store failed tail e below = back-others n bays given store failed tail e (omega (arith, below))
 
+  -- and where it comes back as it was, all that were not opened
+  back-rest : (n : ℕ) (bays : List (Bay D g)) (given : List D) (store : D) (tail : List D) → drop (length bays) given ≡ store ∷ tail → length bays ≤ n →
+      drop n (stores_of bays ++ store ∷ tail) ≡ drop n given
+  back-rest zero [] given store tail e below = sym e
+  back-rest (suc n) [] given store tail e below = sym (ap (λ (xs : List D). drop (suc n) xs) e)
+  back-rest zero (b ∷ bays) given store tail e below = absurd (omega (arith, below))
+  back-rest (suc n) (b ∷ bays) [] store tail e below = absurd (cc)
+  back-rest (suc n) (b ∷ bays) (s ∷ given) store tail e below = back-rest n bays given store tail e (omega (arith, below))
+
   back-here : (bays : List (Bay D g)) (failed : D) (tail : List D) (d : D) → get_or (stores_of bays ++ failed ∷ tail) (length bays) d ≡ failed
   back-here [] failed tail d = refl
   back-here (b ∷ bays) failed tail d = back-here bays failed tail d
 
   pub put-back : (script : Script) (cap : ℕ) (bays : List (Bay D g)) (given stores popped pushed back : List D) (store failed : D) (n k : ℕ) → AreMade script cap given bays → length bays ≡ k → k < n →
       k < length given → reverse stores ≡ drop k given → stores ≡ popped ++ store ∷ [] → pushed ≡ popped ++ failed ∷ [] → back ≡ stores_of bays ++ reverse pushed →
-      IsBack g.size g.faults store failed → IsPutBack g.size g.faults n given back store failed k
+      IsBack g store failed → IsPutBack g n given back store failed k
   put-back script cap bays given stores popped pushed back store failed n k made len below inside rest last now all is =
       let next = next-store given stores popped store k last rest inside in
       let from : drop (length bays) given ≡ store ∷ reverse popped = ap (λ (n : ℕ). drop n given) len ∙ next.from in
@@ -285,12 +297,16 @@ module _ {D : Type 0} {g : Ghosts D} where
       let at : (d : D) → get_or back k d ≡ failed =
       λ d. ap (λ (xs : List D). get_or xs k d) list ∙ ap (λ (n : ℕ). get_or (stores_of bays ++ failed ∷ reverse popped) n d) (sym len) ∙ back-here bays failed (reverse popped) d in
       record {
-        back_is = subst (λ (xs : List D). AreBack g.size g.faults n given xs) (sym list) (record {
+        back_is = subst (λ (xs : List D). AreBack g n given xs) (sym list) (record {
           count = back-count bays given store failed (reverse popped) from;
           each = λ j d l. back-each script cap bays given store failed (reverse popped) made from is j d;
           others = back-others n bays given store failed (reverse popped) from (omega (arith, len, below));
         });
-        rises = λ r d. subst (λ (x : D). Rises (g.faults x) (g.faults (get_or back k d))) (sym (next.here d)) (subst (λ (x : D). Rises (g.faults store) (g.faults x)) (sym (at d)) r);
+        was = next.here;
+        now = at;
+        behind = ap (λ (xs : List D). drop (k + 1) xs) list ∙ back-others (k + 1) bays given store failed (reverse popped) from (omega (arith, len));
+        unopened = λ same. ap (λ (xs : List D). drop (n - 1) xs) list ∙ ap (λ (x : D). drop (n - 1) (stores_of bays ++ x ∷ reverse popped)) same
+            ∙ back-rest (n - 1) bays given store (reverse popped) from (omega (arith, len, below));
       }
 
   -- a bay at its start

@@ -1,20 +1,18 @@
 -- A world's play is the simulator's, with the faults that it tells.
-use Rattle.std.proofs.Common.{◌≡◌, ℕ, zero, suc, ◌+◌, ◌-◌, ◌^◌, ◌<◌, ◌≤◌, Bool, true, false, eqb, ◌&&◌, Option, Some, None, List, [], ◌∷◌, ◌++◌, length, take, get_or, map, cond, inl, inr, ◌⊎◌, refl, sym, ap, subst, ◌∙◌, arith, eq-eqb, length-append, append_assoc}
+use Rattle.std.proofs.Common.{◌≡◌, ℕ, zero, suc, ◌+◌, ◌-◌, ◌^◌, ◌<◌, ◌≤◌, Bool, true, false, eqb, ◌&&◌, Option, Some, None, List, [], ◌∷◌, ◌++◌, length, take, get_or, map, cond, inl, inr, ◌⊎◌, refl, sym, ap, subst, ◌∙◌, arith, eq-eqb}
 use Rattle.std.proofs.Math.Path.{fun_ext}
-use Rattle.std.specs.Prelude.{find, not, nat_le, IsSome}
+use Rattle.std.specs.Prelude.{find, not, nat_le, is_some, IsSome}
 use Rattle.std.specs.List.{list_all, Contains, AllByRecursion}
 use Rattle.std.proofs.lemmas.List.Elements.{recursion_from_All}
 use Rattle.std.proofs.lemmas.Bool.Decides.{nat_tests}
 use Rattle.raid_base.specs.declared.numbers.HostNo.{HostNo}
-use Rattle.raid_base.specs.declared.numbers.BayNo.{BayNo}
 use Rattle.raid_base.specs.declared.messages.Call.{Call}
 use Rattle.raid_base.specs.declared.messages.Turn.{Turn}
-use Rattle.raid_base.specs.Replies.{is_fault}
 use Rattle.script_text.specs.Script.{Script, host_numbers}
 use Rattle.histories.specs.Progress.{Sent, asks}
-use Rattle.histories.specs.History.{Faults, faults_in, IsHistory, answered, after_sent, after_turn, play, has_ended, progress_at, journal, entry_of}
+use Rattle.histories.specs.History.{Faults, faults_in, IsHistory, after_sent, after_turn, has_ended, progress_at}
 use Rattle.histories.specs.Played.{Told}
-use Rattle.histories.specs.Turns.{sim, rounds, round_on, next_host, next_moment, last_moment, all_ended, or_first}
+use Rattle.histories.specs.Turns.{rounds, round_on, next_host, next_moment, last_moment, all_ended, or_first}
 use Rattle.histories.specs.Asked.{AreAsked}
 use Rattle.histories.specs.Bounds.{IsPlayable}
 use Rattle.script_text.specs.Ranges.{Rise, IsScript}
@@ -30,7 +28,7 @@ use Rattle.schedule_play.proofs.TurnLemmas.{length-turns}
 use Rattle.block_store.specs.declared.store.Store.{Ghosts}
 use Rattle.schedule_play.specs.declared.world.World.{World}
 use Rattle.schedule_play.specs.World.{LeadsTo, TurnLeads, Turned, turn_of, IsReady, Shows, HostShows, all_requests}
-use Rattle.schedule_play.specs.Plays.{HasPlayed, Played, Plays, IsFound, waits, unless_ended}
+use Rattle.schedule_play.specs.Plays.{HasPlayed, Played, Plays, sim_from, IsFound, waits, unless_ended}
 
 -- a turn with these faults
 turn-by : (script : Script) (faults : Faults) (o : Option Sent) (earlier later : List Call) → LeadsTo o earlier later → Told script faults later →
@@ -45,25 +43,25 @@ pub turn-told : (script : Script) (faults : Faults) (turn : Turn) (earlier later
 turn-told script faults turn earlier later leads told = turn-by script faults (asks turn.host (progress_at script turn.host earlier) turn.moment) earlier later leads told
 
 -- one more turn
-pub plays-more : (script : Script) (turns : List Turn) (turn : Turn) (earlier later : List Call) → Plays script turns earlier → TurnLeads script turn earlier later →
-    Plays script (turns ++ turn ∷ []) later
-plays-more script turns turn earlier later plays leads faults told =
+pub plays-more : (script : Script) (first : List Call) (turns : List Turn) (turn : Turn) (earlier later : List Call) → Plays script first turns earlier → TurnLeads script turn earlier later →
+    Plays script first (turns ++ turn ∷ []) later
+plays-more script first turns turn earlier later plays leads faults told =
     let t = turn-told script faults turn earlier later leads told in
-    play-more script faults [] turns turn ∙ ap (λ (h : List Call). after_turn script faults h turn) (plays faults t.0) ∙ t.1
+    play-more script faults first turns turn ∙ ap (λ (h : List Call). after_turn script faults h turn) (plays faults t.0) ∙ t.1
 
 -- where the rounds stand after so many turns in rounds
-pub record Reaches (script : Script) (history : List Call) (from moment : ℕ) : Type 0 where
+pub record Reaches (script : Script) (first history : List Call) (from moment : ℕ) : Type 0 where
   pub taken : ℕ
   pub few : taken ≤ length history
-  pub leads : (faults : Faults) → Told script faults history → (more : ℕ) → sim script faults (taken + more) ≡ rounds script faults more history from moment
+  pub leads : (faults : Faults) → Told script faults history → (more : ℕ) → sim_from script faults first (taken + more) ≡ rounds script faults more history from moment
 
-pub reaches-start : (script : Script) (history : List Call) → Plays script script.turns history → Reaches script history 0 (last_moment script.turns)
-reaches-start script history plays = record {
+pub reaches-start : (script : Script) (first history : List Call) → Plays script first script.turns history → Reaches script first history 0 (last_moment script.turns)
+reaches-start script first history plays = record {
   taken = 0;
   few = omega arith;
   leads = λ faults told more.
       let same : 0 + more ≡ more = omega arith in
-      ap (sim script faults) same ∙ ap (λ (h : List Call). rounds script faults more h 0 (last_moment script.turns)) (plays faults told);
+      ap (sim_from script faults first) same ∙ ap (λ (h : List Call). rounds script faults more h 0 (last_moment script.turns)) (plays faults told);
 }
 
 -- the moment of the last turn
@@ -91,16 +89,16 @@ pub turn-longer : (script : Script) (earlier later : List Call) (host : HostNo) 
 turn-longer script earlier later host moment is asked on leads =
     leads-longer (asks host (progress_at script host earlier) moment) earlier later (asks-on script host earlier moment is asked on) leads
 
-pub reaches-on : (script : Script) (history later : List Call) (from moment : ℕ) (host : HostNo) → length later ≡ length history + 1 → Reaches script history from moment →
+pub reaches-on : (script : Script) (first history later : List Call) (from moment : ℕ) (host : HostNo) → length later ≡ length history + 1 → Reaches script first history from moment →
     next_host script history from ≡ Some host → TurnLeads script (record { host = host; moment = next_moment moment }) history later →
-    Reaches script later (host.0 + 1) (next_moment moment)
-reaches-on script history later from moment host longer r next leads = record {
+    Reaches script first later (host.0 + 1) (next_moment moment)
+reaches-on script first history later from moment host longer r next leads = record {
   taken = r.taken + 1;
   few = let f = r.few in omega (arith, f, longer);
   leads = λ faults told more.
       let t = turn-told script faults (record { host = host; moment = next_moment moment }) history later leads told in
       let same : r.taken + 1 + more ≡ r.taken + suc more = omega arith in
-      ap (λ (k : ℕ). sim script faults k) same ∙ r.leads faults t.0 (suc more)
+      ap (λ (k : ℕ). sim_from script faults first k) same ∙ r.leads faults t.0 (suc more)
       ∙ round-step script faults more history later from moment (next_host script history from) host next t.1;
 }
 
@@ -110,12 +108,12 @@ rounds-stay : (script : Script) (faults : Faults) (more : ℕ) (history : List C
 rounds-stay script faults zero history from moment e = refl
 rounds-stay script faults (suc more) history from moment e = ap (round_on (rounds script faults more) script faults history moment) e
 
-pub reaches-end : (script : Script) (history : List Call) (from moment : ℕ) → Reaches script history from moment → next_host script history from ≡ None → IsHistory script history →
-    (most : ℕ) → length history ≤ most → history ≡ sim script (faults_in history) most
-reaches-end script history from moment r e is most few =
+pub reaches-end : (script : Script) (first history : List Call) (from moment : ℕ) → Reaches script first history from moment → next_host script history from ≡ None → IsHistory script history →
+    (most : ℕ) → length history ≤ most → history ≡ sim_from script (faults_in history) first most
+reaches-end script first history from moment r e is most few =
     let f = r.few in
     let same : most ≡ r.taken + (most - r.taken) = omega (arith, f, few) in
-    sym (ap (sim script (faults_in history)) same ∙ r.leads (faults_in history) (history-told script history is) (most - r.taken)
+    sym (ap (sim_from script (faults_in history) first) same ∙ r.leads (faults_in history) (history-told script history is) (most - r.taken)
     ∙ rounds-stay script (faults_in history) (most - r.taken) history from moment e)
 
 -- Finding a host
@@ -302,10 +300,10 @@ module _ {D : Type 0} {g : Ghosts D} where
           subst (λ (n : ℕ). waits script history from (get_or now.hosts.items n d).no ≡ false) e (subst (λ (h : Host). waits script history from h.no ≡ false) at here)
 
   -- where a world stands after so many turns in rounds
-  pub record HasReached (script : Script) (now : World D g) (from moment : ℕ) : Type 0 where
+  pub record HasReached (script : Script) (first : List Call) (now : World D g) (from moment : ℕ) : Type 0 where
     pub history : List Call
     pub shows : Shows script history now
-    pub reaches : Reaches script history from moment
+    pub reaches : Reaches script first history from moment
 
   -- a turn of the host that was found
   pub turned-found : (old new : World D g) (place moment : ℕ) (number : HostNo) (wanted : Option HostNo) → IsFound old.hosts.items wanted (Some (place, number)) →
@@ -329,6 +327,24 @@ module _ {D : Type 0} {g : Ghosts D} where
       by true e = stays script turn history now _ refl (asks-none script turn.host history turn.moment e) s
       by false e = let is = is-playable now r script history s in absurd (apart (turn-waits script history turn.host is.ranges (subst (λ (x : Script). Contains (host_numbers x) turn.host) s.plays among) e))
 
+module _ {D : Type 0} {g : Ghosts D} where
+  -- whether a host asks is told by the turn of the host that was found
+  pub asked-found : (old : World D g) (place moment : ℕ) (number host : HostNo) (wanted : Option HostNo) (result : Bool) → IsFound old.hosts.items wanted (Some (place, number)) →
+      ((h : Host) → h ≡ get_or old.hosts.items place h → (script : Script) (history : List Call) → Shows script history old → result ≡ is_some (asks h.no (progress_at script h.no history) moment)) →
+      number ≡ host → (script : Script) (history : List Call) → Shows script history old → result ≡ is_some (asks host (progress_at script host history) moment)
+  asked-found old place moment number host wanted result found asked same script history s =
+      let one = element old.hosts.items place found.1 in
+      subst (λ (no : HostNo). result ≡ is_some (asks no (progress_at script no history) moment)) (found.2 one.0 one.1 ∙ same) (asked one.0 one.1 script history s)
+
+  -- and one that was not found asks nothing
+  pub asked-ended : (now : World D g) → IsReady now → (host : HostNo) (moment : ℕ) → Contains (host_numbers now.script.now) host → (script : Script) (history : List Call) → Shows script history now →
+      (find (waits script history host.0) (host_numbers script) ≡ Some host → ⊥) → false ≡ is_some (asks host (progress_at script host history) moment)
+  asked-ended now r host moment among script history s apart = by (has_ended script history host) refl
+    where
+      by : (b : Bool) → has_ended script history host ≡ b → false ≡ is_some (asks host (progress_at script host history) moment)
+      by true e = sym (ap is_some (asks-none script host history moment e))
+      by false e = let is = is-playable now r script history s in absurd (apart (turn-waits script history host is.ranges (subst (λ (x : Script). Contains (host_numbers x) host) s.plays among) e))
+
 all-from : (test : HostNo → Bool) → (λ (host : HostNo). nat_le 0 host.0 && test host) ≡ test
 all-from test = fun_ext (λ host. let t : nat_le 0 host.0 ≡ true = grind (arith, nat_tests) in rw t refl)
 
@@ -346,10 +362,8 @@ found-other hosts wanted place number host found e same =
     let t : eqb number.0 host.0 ≡ true = eq-eqb _ _ (ap (λ (h : HostNo). h.0) one) in
     cc
 
-pub found-none : (hosts : List Host) (wanted : Option HostNo) (result : Option (ℕ × HostNo)) (host : HostNo) → IsFound hosts wanted result →
-    ((x : ℕ × HostNo) → result ≡ Some x → ⊥) → wanted ≡ Some host → ⊥
-found-none hosts wanted None host found none same = cc
-found-none hosts wanted (Some x) host found none same = none x refl
+pub found-nobody : {wanted : Option HostNo} (host : HostNo) → wanted ≡ None → wanted ≡ Some host → ⊥
+found-nobody host none same = cc
 
 pub same-number : (a b : HostNo) → true ≡ eqb a.0 b.0 → a ≡ b
 same-number a b e = let same : a.0 ≡ b.0 = grind (arith, nat_tests) in ap (λ (k : ℕ). record { 0 = k }) same
@@ -390,10 +404,10 @@ module _ {D : Type 0} {g : Ghosts D} where
       let after = t.shows in
       (ready-again old new r r.script r.history t.later shows after, after.plays ∙ sym shows.plays)
 
-  pub played-more : (old new : World D g) (script : Script) (items : List Turn) (i : ℕ) (d : Turn) → items ≡ script.turns → i < length items →
-      ((s : Script) (history : List Call) → Shows s history old → Turned s (get_or items i d) history new) → HasPlayed script (take i script.turns) old →
-      HasPlayed script (take (i + 1) script.turns) new
-  played-more old new script items i d same inside turned h =
+  pub played-more : (old new : World D g) (script : Script) (first : List Call) (items : List Turn) (i : ℕ) (d : Turn) → items ≡ script.turns → i < length items →
+      ((s : Script) (history : List Call) → Shows s history old → Turned s (get_or items i d) history new) → HasPlayed script first (take i script.turns) old →
+      HasPlayed script first (take (i + 1) script.turns) new
+  played-more old new script first items i d same inside turned h =
       let t = turned script h.history h.shows in
       let more : take (i + 1) script.turns ≡ take i script.turns ++ get_or items i d ∷ [] =
       let one : i + 1 ≡ suc i = omega arith in
@@ -403,16 +417,16 @@ module _ {D : Type 0} {g : Ghosts D} where
       record {
         history = t.later;
         shows = t.shows;
-        plays = subst (λ (turns : List Turn). Plays script turns t.later) (sym more) (plays-more script (take i script.turns) (get_or items i d) h.history t.later h.plays t.leads);
+        plays = subst (λ (turns : List Turn). Plays script first turns t.later) (sym more) (plays-more script first (take i script.turns) (get_or items i d) h.history t.later h.plays t.leads);
       }
 
-  pub played-all : (now : World D g) (script : Script) (items : List Turn) (i : ℕ) → items ≡ script.turns → length items ≤ i → HasPlayed script (take i script.turns) now →
-      HasPlayed script script.turns now
-  played-all now script items i same past h =
-      subst (λ (turns : List Turn). HasPlayed script turns now) (take-past script.turns i (omega (arith, past, ap length same))) h
+  pub played-all : (now : World D g) (script : Script) (first : List Call) (items : List Turn) (i : ℕ) → items ≡ script.turns → length items ≤ i → HasPlayed script first (take i script.turns) now →
+      HasPlayed script first script.turns now
+  played-all now script first items i same past h =
+      subst (λ (turns : List Turn). HasPlayed script first turns now) (take-past script.turns i (omega (arith, past, ap length same))) h
 
-  pub played-none : (now : World D g) (script : Script) → Shows script [] now → HasPlayed script [] now
-  played-none now script s = record { history = []; shows = s; plays = λ faults told. refl }
+  pub played-none : (now : World D g) (script : Script) (first : List Call) → Shows script first now → HasPlayed script first [] now
+  played-none now script first s = record { history = first; shows = s; plays = λ faults told. refl }
 
   -- a turn in rounds
   pub record RoundTurn (script : Script) (history : List Call) (new : World D g) (from moment : ℕ) (number : HostNo) : Type 0 where
@@ -467,29 +481,29 @@ module _ {D : Type 0} {g : Ghosts D} where
   round-ready old new r from moment number turn =
       let t = turn r.script r.history r.shows in ready-again old new r r.script r.history t.later r.shows t.shows
 
-  pub round-reaches : (old new : World D g) (from last moment : ℕ) (number : HostNo) → moment ≡ next_moment last → (script : Script) →
-      ((history : List Call) → Shows script history old → RoundTurn script history new from moment number) → HasReached script old from last →
-      HasReached script new (number.0 + 1) moment
-  round-reaches old new from last moment number at script turn h =
+  pub round-reaches : (old new : World D g) (from last moment : ℕ) (number : HostNo) → moment ≡ next_moment last → (script : Script) (first : List Call) →
+      ((history : List Call) → Shows script history old → RoundTurn script history new from moment number) → HasReached script first old from last →
+      HasReached script first new (number.0 + 1) moment
+  round-reaches old new from last moment number at script first turn h =
       let t = turn h.history h.shows in
       record {
         history = t.later;
         shows = t.shows;
-        reaches = subst (λ (m : ℕ). Reaches script t.later (number.0 + 1) m) (sym at)
-            (reaches-on script h.history t.later from last number t.longer h.reaches t.next
+        reaches = subst (λ (m : ℕ). Reaches script first t.later (number.0 + 1) m) (sym at)
+            (reaches-on script first h.history t.later from last number t.longer h.reaches t.next
             (subst (λ (m : ℕ). TurnLeads script (record { host = number; moment = m }) h.history t.later) at t.leads));
       }
 
-  pub rounds-start : (now : World D g) (last : ℕ) (script : Script) → HasPlayed script script.turns now → last ≡ last_moment script.turns → HasReached script now 0 last
-  rounds-start now last script h at = record {
+  pub rounds-start : (now : World D g) (last : ℕ) (script : Script) (first : List Call) → HasPlayed script first script.turns now → last ≡ last_moment script.turns → HasReached script first now 0 last
+  rounds-start now last script first h at = record {
     history = h.history;
     shows = h.shows;
-    reaches = subst (λ (m : ℕ). Reaches script h.history 0 m) (sym at) (reaches-start script h.history h.plays);
+    reaches = subst (λ (m : ℕ). Reaches script first h.history 0 m) (sym at) (reaches-start script first h.history h.plays);
   }
 
-  pub rounds-end : (now : World D g) → IsReady now → (from moment : ℕ) (script : Script) → ((history : List Call) → Shows script history now → next_host script history from ≡ None) →
-      HasReached script now from moment → Played script now
-  rounds-end now r from moment script none h =
+  pub rounds-end : (now : World D g) → IsReady now → (from moment : ℕ) (script : Script) (first : List Call) → ((history : List Call) → Shows script history now → next_host script history from ≡ None) →
+      HasReached script first now from moment → Played script first now
+  rounds-end now r from moment script first none h =
       let s = h.shows in
       let bounded = requests_are_bounded script h.history (is-playable now r script h.history s) s.asked in
       let most : length h.history ≤ all_requests script = bounded.calls in
@@ -498,7 +512,7 @@ module _ {D : Type 0} {g : Ghosts D} where
         history = h.history;
         shows = s;
         ended = none-ended script h.history from e;
-        simulated = λ tell m enough. reaches-end script h.history from moment h.reaches e (s.told tell) m (omega (arith, most, enough));
+        simulated = λ tell m enough. reaches-end script first h.history from moment h.reaches e (s.told tell) m (omega (arith, most, enough));
       }
 
 pub found-nothing : (hosts : List Host) (wanted : Option HostNo) (result : Option (ℕ × HostNo)) → IsFound hosts wanted result → ((x : ℕ × HostNo) → result ≡ Some x → ⊥) → wanted ≡ None

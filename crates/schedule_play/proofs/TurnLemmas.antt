@@ -1,7 +1,6 @@
 -- What a host that asks may count on in its world.
 use Rattle.std.proofs.Common.{◌≡◌, ℕ, ◌+◌, ◌-◌, ◌<◌, ◌≤◌, ◌^◌, true, eqb, Option, Some, None, List, [], ◌∷◌, length, get_or, refl, sym, ap, subst, ◌∙◌, arith, eq-eqb, length-append}
 use Rattle.std.specs.Vec.{vec_len, vec_capacity}
-use Rattle.std.specs.Prelude.{IfSome}
 use Rattle.raid_base.specs.declared.numbers.HostNo.{HostNo}
 use Rattle.raid_base.specs.declared.numbers.BayNo.{BayNo}
 use Rattle.raid_base.specs.declared.messages.Ask.{Ask}
@@ -9,14 +8,12 @@ use Rattle.raid_base.specs.declared.messages.Answer.{Answer}
 use Rattle.raid_base.specs.declared.messages.Reply.{Reply}
 use Rattle.raid_base.specs.declared.messages.Reply.TheVariants.{Done}
 use Rattle.raid_base.specs.declared.messages.Request.{Request}
-use Rattle.raid_base.specs.declared.messages.Request.TheVariants.{Share, Claim, Confirm, Put, Release, Lose, Fit}
+use Rattle.raid_base.specs.declared.messages.Request.TheVariants.{Lose}
 use Rattle.raid_base.specs.declared.messages.Errand.{Errand}
 use Rattle.raid_base.specs.declared.messages.Call.{Call}
 use Rattle.raid_base.specs.Fits.{fits}
-use Rattle.slot_rules.specs.Serving.{row_of}
 use Rattle.slot_rules.specs.Replay.{next_clock}
 use Rattle.bay_device.specs.Handling.{IsAskOfBay}
-use Rattle.attempts.specs.Discipline.{IsAskable}
 use Rattle.script_text.specs.Script.{Script}
 use Rattle.host_engine.specs.declared.host.Host.{Host}
 use Rattle.histories.specs.Progress.{Progress, Sent, asks, sent_by, work_errand}

@@ -1,10 +1,11 @@
 -- A world at its start.
-use Rattle.std.specs.Prelude.{◌≡◌, ℕ, ◌<◌, ◌≤◌, IsTrue, List, [], length, map, drop, slice_index_or}
-use Rattle.raid_base.specs.Counts.{Rises, RisesBy}
+use Rattle.std.specs.Prelude.{◌≡◌, ℕ, ◌+◌, ◌-◌, ◌<◌, ◌≤◌, IsTrue, List, [], length, map, drop, slice_index_or}
+use Rattle.raid_base.specs.Counts.{RisesBy}
 use Rattle.slot_rules.specs.Slots.{first_bay}
 use Rattle.slot_rules.specs.Tables.{with_blocks}
 use Rattle.block_store.specs.declared.store.Store.{Ghosts}
 use Rattle.bay_device.specs.declared.bay.Bay.{Bay}
+use Rattle.bay_device.specs.Making.{IsUncleared}
 use Rattle.script_text.specs.Script.{Script}
 use Rattle.schedule_play.specs.declared.making.WorldFault.{WorldFault}
 use Rattle.schedule_play.specs.declared.making.WorldFault.TheVariants.{TooFew, TooSmall, NoMemory, Fault}
@@ -41,20 +42,29 @@ pub record IsFirstSmall {D : Type 0} (size : D → ℕ) (n rows at : ℕ) (store
   pub first : (k : ℕ) (d : D) → k < at → rows ≤ size (slice_index_or stores k d)
 
 -- a store as it was, but for its content and more faults
-pub record IsBack {D : Type 0} (size faults : D → ℕ) (store back : D) : Type 0 where
-  pub size_is : size back ≡ size store
-  pub faults_least : RisesBy 0 (faults store) (faults back)
+pub record IsBack {D : Type 0} (g : Ghosts D) (store back : D) : Type 0 where
+  pub tells_is : g.tells back ≡ g.tells store
+  pub size_is : g.size back ≡ g.size store
+  pub faults_least : RisesBy 0 (g.faults store) (g.faults back)
 
 -- all stores, in order; those beyond the first n are as they were
-pub record AreBack {D : Type 0} (size faults : D → ℕ) (n : ℕ) (stores back : List D) : Type 0 where
+pub record AreBack {D : Type 0} (g : Ghosts D) (n : ℕ) (stores back : List D) : Type 0 where
   pub count : length back ≡ length stores
-  pub each : (k : ℕ) (d : D) → k < length stores → IsBack size faults (slice_index_or stores k d) (slice_index_or back k d)
+  pub each : (k : ℕ) (d : D) → k < length stores → IsBack g (slice_index_or stores k d) (slice_index_or back k d)
   pub others : drop n back ≡ drop n stores
 
--- why no world was made, with all stores
-abbrev pub IsRefusal : {D : Type 0} → (D → ℕ) → (D → ℕ) → ℕ → ℕ → List D → WorldFault D → Type 0
-IsRefusal size faults n rows stores (TooFew back) = (length stores < n) × (back.items ≡ stores)
-IsRefusal size faults n rows stores (TooSmall bay back) = IsFirstSmall size n rows bay.0 stores × (back.items ≡ stores)
-IsRefusal size faults n rows stores (NoMemory back) = AreLarge size n rows stores × AreBack size faults n stores back.items
-IsRefusal {D} size faults n rows stores (Fault bay back) = AreLarge size n rows stores × AreBack size faults n stores back.items × (bay.0 < n)
-    × ((d : D) → Rises (faults (slice_index_or stores bay.0 d)) (faults (slice_index_or back.items bay.0 d)))
+-- the stores from this place on were not touched
+abbrev pub AreUntouchedFrom : {D : Type 0} → ℕ → List D → List D → Type 0
+AreUntouchedFrom at stores back = drop at back ≡ drop at stores
+
+-- the store at this place failed before its first blocks were all cleared, and those behind it were not touched
+pub record IsHalted {D : Type 0} (g : Ghosts D) (rows at : ℕ) (stores back : List D) : Type 0 where
+  pub failed : (d : D) → IsUncleared g rows (slice_index_or stores at d) (slice_index_or back at d)
+  pub behind : AreUntouchedFrom (at + 1) stores back
+
+-- Why no world was made, with all stores. Where there was no memory that of the last device was not touched
+abbrev pub IsRefusal : {D : Type 0} → Ghosts D → ℕ → ℕ → List D → WorldFault D → Type 0
+IsRefusal g n rows stores (TooFew back) = (length stores < n) × (back.items ≡ stores)
+IsRefusal g n rows stores (TooSmall bay back) = IsFirstSmall g.size n rows bay.0 stores × (back.items ≡ stores)
+IsRefusal g n rows stores (NoMemory back) = AreLarge g.size n rows stores × AreBack g n stores back.items × AreUntouchedFrom (n - 1) stores back.items
+IsRefusal g n rows stores (Fault bay back) = AreLarge g.size n rows stores × AreBack g n stores back.items × (bay.0 < n) × IsHalted g rows bay.0 stores back.items

@@ -4,6 +4,7 @@ use Rattle.std.specs.Vec.{vec_capacity}
 use Rattle.raid_base.specs.declared.messages.Answer.{Answer}
 use Rattle.raid_base.specs.declared.messages.Call.{Call}
 use Rattle.raid_base.specs.declared.messages.Turn.{Turn}
+use Rattle.raid_base.specs.declared.numbers.HostNo.{HostNo}
 use Rattle.stripe_layout.specs.Placement.{bay}
 use Rattle.slot_rules.specs.Tables.{with_blocks}
 use Rattle.block_store.specs.declared.store.Store.{Ghosts}
@@ -96,6 +97,10 @@ pub record IsReady {D : Type 0} {g : Ghosts D} (now : World D g) : Type 0 where
   pub few : all_requests script < 2 ^ 62
   pub shows : Shows script history now
 
+-- a turn of the host of this number
+abbrev pub turn_by : HostNo → ℕ → Turn
+turn_by host moment = record { host = host; moment = moment }
+
 -- the turn of the host at this place
 abbrev pub turn_of : Host → ℕ → Turn
-turn_of host moment = record { host = host.no; moment = moment }
+turn_of host moment = turn_by host.no moment

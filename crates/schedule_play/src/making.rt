@@ -117,7 +117,7 @@ fn make_bays<D: Store>(
     ensures made { IfOk result (λ made. AreMade script.now cap stores.items made.0.items) }
     ensures others { IfOk result (λ made. made.1.items ≡ drop script.now.n stores.items) }
     ensures room { IfOk result (λ made. vec_len stores ≤ vec_capacity made.1) }
-    ensures refused { IfErr result (IsRefusal D.size D.faults script.now.n script.now.rows stores.items) }
+    ensures refused { IfErr result (IsRefusal D.Store script.now.n script.now.rows stores.items) }
 {
     let mut bays = match with_room(alloc, script.n as usize) {
         Ok(bays) => bays,
@@ -168,7 +168,7 @@ impl<'s, D: Store> World<'s, D> {
         ensures blank { IfOk result (λ world. IsBlank script.now world.gathered) }
         ensures closable { IfOk result IsClosable }
         ensures large { IfOk result (λ world. AreLarge D.size script.now.n script.now.rows stores.items) }
-        ensures refused { IfErr result (IsRefusal D.size D.faults script.now.n script.now.rows stores.items) }
+        ensures refused { IfErr result (IsRefusal D.Store script.now.n script.now.rows stores.items) }
     {
         if stores.len() < script.n as usize {
             return Err(WorldFault::TooFew(stores));

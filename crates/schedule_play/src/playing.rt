@@ -1,11 +1,11 @@
 //! Whole plays: the turns of the script, and then rounds until every host has ended.
-ghost use Rattle.std.specs.Prelude.{◌≡◌, ◌<◌, ◌^◌, List, [], length};
+ghost use Rattle.std.specs.Prelude.{◌≡◌, ◌<◌, ◌^◌, List, length, is_some, false};
 ghost use Rattle.std.specs.List.{Contains};
 ghost use Rattle.raid_base.specs.declared.messages.Call.{Call};
 ghost use Rattle.script_text.specs.Script.{Script, host_numbers};
 ghost use Rattle.histories.specs.Asked.{AreAsked};
 ghost use Rattle.histories.specs.Bounds.{IsPlayable};
-ghost use Rattle.histories.specs.History.{has_ended};
+ghost use Rattle.histories.specs.History.{has_ended, progress_at};
 ghost use Rattle.histories.specs.Turns.{next_host, next_moment, last_moment};
 ghost use Rattle.schedule_play.specs.Plays.{unless_ended};
 ghost use Rattle.schedule_play.specs.World.{HostShows};
@@ -50,7 +50,8 @@ fn next_moment(moment: u64) -> u64
 
 impl<'s, D: Store> World<'s, D> {
     ghost use Rattle.std.specs.Prelude.{find};
-    ghost use Rattle.schedule_play.specs.World.{Shows, Turned, IsReady, AllTell, Keeps};
+    ghost use Rattle.schedule_play.specs.World.{Shows, Turned, IsReady, AllTell, Keeps, turn_by};
+    ghost use Rattle.histories.specs.Progress.{asks};
     ghost use Rattle.schedule_play.specs.Plays.{IsFound, waits, HasPlayed, Played};
 
     /// The first host from this number on that has not ended: its place and number.
@@ -79,6 +80,30 @@ impl<'s, D: Store> World<'s, D> {
         }
     }
 
+    /// One request of this host is handled and taken. False where the host has ended, and then nothing changes.
+    pub fn turn(&mut self, host: HostNo, moment: u64) -> bool
+        requires ready { IsReady self.old }
+        requires host { Contains (host_numbers self.old.script.now) host }
+        requires moment { moment < 2 ^ 40 }
+        ensures turned { (script : Script) (history : List Call) → Shows script history self.old → Turned script (turn_by host moment) history self.new }
+        ensures asked { (script : Script) (history : List Call) → Shows script history self.old → result ≡ is_some (asks host (progress_at script host history) moment) }
+        ensures same { result ≡ false → self.new ≡ self.old }
+        ensures ready { IsReady self.new }
+        ensures telling { AllTell self.old.bays.items → AllTell self.new.bays.items }
+        ensures keeps { Keeps self.old self.new }
+    {
+        match self.first_waiting(host.0 as u16) {
+            Some((place, found)) => {
+                if found == host {
+                    self.turn_at(place, moment)
+                } else {
+                    false
+                }
+            }
+            None => false,
+        }
+    }
+
     /// A turn of the script. Where its host has ended nothing changes.
     fn take_turn(&mut self, turn: &Turn)
         requires ready { IsReady self.old }
@@ -88,18 +113,14 @@ impl<'s, D: Store> World<'s, D> {
         ensures telling { AllTell self.old.bays.items → AllTell self.new.bays.items }
         ensures keeps { Keeps self.old self.new }
     {
-        if let Some((place, host)) = self.first_waiting(turn.host.0 as u16) {
-            if host == turn.host {
-                self.turn_at(place, turn.moment);
-            }
-        }
+        self.turn(turn.host, turn.moment);
     }
 
     /// The turns of the script, in order.
     fn play_turns(&mut self)
         requires ready { IsReady self.old }
         ensures ready { IsReady self.new }
-        ensures played { (script : Script) → Shows script [] self.old → HasPlayed script script.turns self.new }
+        ensures played { (script : Script) (earlier : List Call) → Shows script earlier self.old → HasPlayed script earlier script.turns self.new }
         ensures telling { AllTell self.old.bays.items → AllTell self.new.bays.items }
         ensures keeps { Keeps self.old self.new }
     {
@@ -112,7 +133,8 @@ impl<'s, D: Store> World<'s, D> {
     fn play_rounds(&mut self, last: u64)
         requires ready { IsReady self.old }
         requires moment { last < 2 ^ 40 }
-        ensures played { (script : Script) → HasPlayed script script.turns self.old → last ≡ last_moment script.turns → Played script self.new }
+        ensures ready { IsReady self.new }
+        ensures played { (script : Script) (earlier : List Call) → HasPlayed script earlier script.turns self.old → last ≡ last_moment script.turns → Played script earlier self.new }
         ensures telling { AllTell self.old.bays.items → AllTell self.new.bays.items }
         ensures keeps { Keeps self.old self.new }
     {
@@ -125,10 +147,11 @@ impl<'s, D: Store> World<'s, D> {
         }
     }
 
-    /// The script's turns in order, then one turn after another of each host that has not ended, by rising number and round and round, until all have ended.
+    /// From any history on: the script's turns in order, then one turn after another of each host that has not ended, by rising number and round and round, until all have ended.
     pub fn play(&mut self)
         requires ready { IsReady self.old }
-        ensures played { (script : Script) → Shows script [] self.old → Played script self.new }
+        ensures ready { IsReady self.new }
+        ensures played { (script : Script) (earlier : List Call) → Shows script earlier self.old → Played script earlier self.new }
         ensures telling { AllTell self.old.bays.items → AllTell self.new.bays.items }
         ensures keeps { Keeps self.old self.new }
     {

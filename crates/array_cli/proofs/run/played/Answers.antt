@@ -14,19 +14,19 @@ returns-in-Err-clause-refused g c =
 -- src/run.rt:127:11
 pub finish-requires-clause-ready : goal.finish-requires-clause-ready
 finish-requires-clause-ready g c =
-    let p = c.play.ensures.played c.args.script.now c.in-Ok.ensures.shows in
+    let p = c.play.ensures.played c.args.script.now [] c.in-Ok.ensures.shows in
     ready c.args.script.now c.requires.script c.requires.few p.history c.play.new.self p.shows
 
 -- src/run.rt:127:11
 pub finish-requires-clause-blank : goal.finish-requires-clause-blank
 finish-requires-clause-blank g c =
-    let p = c.play.ensures.played c.args.script.now c.in-Ok.ensures.shows in
+    let p = c.play.ensures.played c.args.script.now [] c.in-Ok.ensures.shows in
     blank-on c.args.script.now p.history c.in-Ok.world c.play.new.self c.in-Ok.ensures.blank c.play.ensures.keeps p.shows
 
 -- src/run.rt:129:25
 pub closed-requires : goal.closed-requires
 closed-requires g c =
-    let p = c.play.ensures.played c.args.script.now c.in-Ok.ensures.shows in
+    let p = c.play.ensures.played c.args.script.now [] c.in-Ok.ensures.shows in
     let k = c.play.ensures.keeps in
     closable-on c.args.script.now [] p.history c.in-Ok.world c.finish.new.self c.in-Ok.ensures.closable c.in-Ok.ensures.shows (c.finish.ensures.shows c.args.script.now p.history p.shows)
     (c.finish.ensures.others ∙ k.others) (c.finish.ensures.journals ∙ ap (λ (x : _). x.journals) k.gathered)
@@ -36,7 +36,7 @@ pub returns-in-Ok-finish-clause-finished : goal.returns-in-Ok-finish-clause-fini
 returns-in-Ok-finish-clause-finished g c =
     let script = c.args.script.now in
     let stores = c.args.stores.items in
-    let p = c.play.ensures.played script c.in-Ok.ensures.shows in
+    let p = c.play.ensures.played script [] c.in-Ok.ensures.shows in
     let k = c.play.ensures.keeps in
     let shows = c.finish.ensures.shows script p.history p.shows in
     let start = over-start script stores c.in-Ok.world c.in-Ok.ensures.large c.in-Ok.ensures.over c.in-Ok.ensures.shows c.in-Ok.ensures.others in
@@ -62,7 +62,7 @@ pub returns-in-Err-finish-clause-refused : goal.returns-in-Err-finish-clause-ref
 returns-in-Err-finish-clause-refused g c =
     let script = c.args.script.now in
     let stores = c.args.stores.items in
-    let p = c.play.ensures.played script c.in-Ok.ensures.shows in
+    let p = c.play.ensures.played script [] c.in-Ok.ensures.shows in
     let k = c.play.ensures.keeps in
     let shows = c.finish.ensures.shows script p.history p.shows in
     let start = over-start script stores c.in-Ok.world c.in-Ok.ensures.large c.in-Ok.ensures.over c.in-Ok.ensures.shows c.in-Ok.ensures.others in

@@ -1,8 +1,9 @@
-use Rattle.std.proofs.Common.{◌≤◌, ℕ, List, [], replicate, length, slice_set, arith}
-use Rattle.std.proofs.lemmas.List.{length-replicate}
+use Rattle.std.proofs.Common.{◌≤◌, ◌<◌, ◌∙◌, ℕ, List, [], replicate, length, drop, slice_set, ap, arith}
+use Rattle.std.proofs.lemmas.List.{length-replicate, drop-set-lt}
 use Rattle.raid_base.specs.Cells.{zeros}
+use Rattle.slot_rules.specs.Serving.{row_of}
 use Rattle.slot_rules.proofs.Handlings.{handled-written}
-use Rattle.bay_device.proofs.ServeLemmas.{write-fails}
+use Rattle.bay_device.proofs.ServeLemmas.{row-within, write-fails}
 use Rattle.bay_device.proofs.serve.serve_write.Goals as goal
 
 pub returns-in-Ok-clause-somehow : goal.returns-in-Ok-clause-somehow
@@ -18,3 +19,9 @@ returns-in-Ok-clause-somehow g c =
 
 pub returns-in-Err-clause-somehow : goal.returns-in-Err-clause-somehow
 returns-in-Err-clause-somehow g c = record { blocks = []; later = []; is = write-fails c.args.slots.now [] c.args.ask.now (c.requires.verdict []) }
+
+pub returns-in-Ok-clause-others : goal.returns-in-Ok-clause-others
+returns-in-Ok-clause-others g c =
+    let rows : ℕ = length c.args.slots.now.slots in
+    let within : c.args.row.0 < rows = row-within rows c.args.ask.now c.args.row (ap (λ what. row_of what) c.requires.put.2) c.requires.asks in
+    ap (λ (blocks : List (List ℕ)). drop rows blocks) c.in-Ok.ensures.content ∙ drop-set-lt rows (g.D.Store.content c.args.store.now) c.args.row.0 c.args.cell.now.bytes within

@@ -9,8 +9,8 @@ play_rounds-requires-clause-moment g c =
     subst (λ (m : ℕ). m < 2 ^ 40) (sym (c.last_moment-last.ensures ∙ ap last_moment c.turns.ensures)) (last-small c.args.self.now c.requires.ready)
 
 pub returns-clause-played : goal.returns-clause-played
-returns-clause-played g c script shows =
-    c.play_rounds.ensures.played script (c.play_turns.ensures.played script shows)
+returns-clause-played g c script earlier shows =
+    c.play_rounds.ensures.played script earlier (c.play_turns.ensures.played script earlier shows)
     (c.last_moment-last.ensures ∙ ap last_moment (c.turns.ensures ∙ ap (λ s. s.turns) shows.plays))
 
 pub returns-clause-telling : goal.returns-clause-telling

@@ -4,7 +4,7 @@ use Rattle.schedule_play.proofs.KeepLemmas.{keeps-nothing, keeps-both}
 use Rattle.schedule_play.proofs.world.World.play_rounds.Goals as goal
 
 pub loop-place-init : goal.loop-place-init
-loop-place-init g c = (c.requires.ready, c.requires.moment, (λ all. all), keeps-nothing c.args.self.now, λ script played at. rounds-start c.args.self.now c.args.last script played at)
+loop-place-init g c = (c.requires.ready, c.requires.moment, (λ all. all), keeps-nothing c.args.self.now, λ script earlier played at. rounds-start c.args.self.now c.args.last script earlier played at)
 
 pub turn_at-requires-clause-place : goal.turn_at-requires-clause-place
 turn_at-requires-clause-place g c =
@@ -31,18 +31,21 @@ loop-place-preserved g c =
       subst (λ (m : ℕ). m < 2 ^ 40) (sym c.next_moment-moment.ensures) (next-small c.loop-place.moment),
       (λ all. c.turn_at.ensures.telling (c.loop-place.invariant.2 all)),
       keeps-both _ c.loop-place.self c.turn_at.new.self c.loop-place.invariant.3 c.turn_at.ensures.keeps,
-      λ script played at. round-reaches c.loop-place.self c.turn_at.new.self c.loop-place.from c.loop-place.moment c.next_moment-moment.result c.in-Some.host c.next_moment-moment.ensures script
-          (turn script) (c.loop-place.invariant.4 script played at),
+      λ script earlier played at. round-reaches c.loop-place.self c.turn_at.new.self c.loop-place.from c.loop-place.moment c.next_moment-moment.result c.in-Some.host c.next_moment-moment.ensures script earlier
+          (turn script) (c.loop-place.invariant.4 script earlier played at),
     )
 
 pub returns-clause-played : goal.returns-clause-played
-returns-clause-played g c script played at =
-    rounds-end c.loop-place.self c.loop-place.invariant.0 c.loop-place.from c.loop-place.moment script
+returns-clause-played g c script earlier played at =
+    rounds-end c.loop-place.self c.loop-place.invariant.0 c.loop-place.from c.loop-place.moment script earlier
     (λ history shows. found-nothing c.loop-place.self.hosts.items _ c.next_waiting.result (c.next_waiting.ensures script history shows) c.in_default.not-Some)
-    (c.loop-place.invariant.4 script played at)
+    (c.loop-place.invariant.4 script earlier played at)
 
 pub returns-clause-telling : goal.returns-clause-telling
 returns-clause-telling g c = c.loop-place.invariant.2
 
 pub returns-clause-keeps : goal.returns-clause-keeps
 returns-clause-keeps g c = c.loop-place.invariant.3
+
+pub returns-clause-ready : goal.returns-clause-ready
+returns-clause-ready g c = c.loop-place.invariant.0
