@@ -2,3 +2,4 @@ pub mod AttemptLemmas
 pub mod HostLemmas
 pub mod TakeLemmas
 pub mod ReadyLemmas
+pub mod ReadLemmas

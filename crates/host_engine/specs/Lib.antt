@@ -2,3 +2,4 @@ pub mod Parts
 pub mod Left
 pub mod Stands
 pub mod Ready
+pub mod Reads

@@ -8,6 +8,7 @@ ghost use Rattle.std.specs.Vec.{vec_len, vec_capacity};
 use crate::attempt::{Attempt, Kept};
 use crate::duty::Duty;
 use crate::lookup;
+use crate::reads::contents_of;
 use crate::room::{contents_in, requests_in, task_parts, with_room};
 use histories::Gone;
 use place_numbers::Numbers;
@@ -137,7 +138,9 @@ impl<'s> Host<'s> {
     ghost use Rattle.raid_base.specs.declared.jobs.Task.TheVariants.{Rebuild};
     ghost use Rattle.histories.specs.Plain.{IsTried, FirstTried, is_sized_task, is_held_task, is_plain_task, task_parts};
     ghost use Rattle.histories.specs.Progress.{Progress, with_ending, next_job, try_task, try_parts, lose_job, fit_job, rebuild_job, start_jobs, attempt_refused, row_mended, try_again, stops, task_of, asks, job_ended, attempt_ended, work_told, is_over, Sent};
+    ghost use Rattle.histories.specs.Endings.{AreEndings};
     ghost use Rattle.host_engine.specs.Left.{contents_kept};
+    ghost use Rattle.host_engine.specs.Reads.{contents_at};
     ghost use Rattle.host_engine.specs.declared.attempt.Kept.TheVariants.{Contents};
     ghost use Rattle.host_engine.specs.Stands.{Counts, Stands, KeepsRoom, Skips, Begins, BeginsFirst, FirstTask, sent_pair, Told, IsTrying, IsAsking, Quits, IsNoted, CanHear, CanTake, Takes, IsSentBy, IsFreshHost};
 
@@ -603,6 +606,18 @@ impl<'s> Host<'s> {
         ensures { result.now ≡ self.now.results.items }
     {
         self.results.as_slice()
+    }
+
+    /// What a job has read, in the order of its blocks: nothing where it is no read that is done.
+    pub fn contents(&self, job: u32) -> &[Content]
+        ensures { (script : Script) (host : HostNo) (p : Progress) → Stands script host self.now p → AreEndings script host p.endings → result.now ≡ contents_at p.endings job }
+    {
+        contents_of(
+            self.jobs,
+            self.results.as_slice(),
+            self.contents.as_slice(),
+            job,
+        )
     }
 
     /// The contents of all reads so far, one after another.

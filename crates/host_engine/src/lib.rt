@@ -5,6 +5,7 @@ pub mod attempt;
 pub mod duty;
 pub mod host;
 pub mod lookup;
+mod reads;
 pub mod room;
 
 pub use host::Host;

@@ -144,3 +144,29 @@ pub fn has_read(
     let count = asked(&mut host, steps);
     Ok(count == steps.len() && host.read_contents() == contents)
 }
+
+/// Whether the host shows that each of these jobs has read these contents.
+fn shows(host: &Host, cases: &[(u32, &[Content])]) -> bool {
+    for (job, contents) in cases {
+        if host.contents(*job) != *contents {
+            return false;
+        }
+    }
+    true
+}
+
+/// Whether each of these jobs of the host has read these contents once it was told these replies.
+pub fn have_read(
+    alloc: Global,
+    no: HostNo,
+    hosts: &[u8],
+    steps: &[Step],
+    cases: &[(u32, &[Content])],
+) -> Result<bool, Fail>
+    requires { no.0 < 16 }
+{
+    let script = script_of(alloc, hosts)?;
+    let mut host = make_host(alloc, no, &script)?;
+    let count = asked(&mut host, steps);
+    Ok(count == steps.len() && shows(&host, cases))
+}

@@ -4,6 +4,8 @@
 #[cfg(test)]
 mod hosts;
 #[cfg(test)]
+mod reads;
+#[cfg(test)]
 mod repairs;
 #[cfg(test)]
 mod smallest;
