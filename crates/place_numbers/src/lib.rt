@@ -12,8 +12,8 @@ use raid_base::{HostNo, Note, Number, Reply, Spent, next_number};
 /// A host, and the greatest number that it has seen or drawn.
 #[derive(Debug, Drop)]
 pub struct Numbers {
-    pub host: HostNo,
-    pub seen: Number,
+    host: HostNo,
+    seen: Number,
     pub ghost is_host: { host.0 < 16 },
 }
 
