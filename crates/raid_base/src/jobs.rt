@@ -3,6 +3,7 @@
 use crate::messages::Note;
 use crate::names::Name;
 use crate::numbers::{BayNo, HostNo, Number, RowNo};
+use thiserror::Error;
 
 /// What a job does.
 ///
@@ -143,10 +144,13 @@ pub struct RowPart {
 }
 
 /// Why a job has no parts.
-#[derive(Clone, Copy, Debug, PartialEq, Eq)]
+#[derive(Clone, Copy, Debug, PartialEq, Eq, Error)]
 pub enum PartsFault {
+    #[error("no object")]
     NoObject,
+    #[error("past the end: {blocks} blocks")]
     PastEnd { blocks: u32 },
+    #[error("too many rows: {rows}")]
     TooManyRows { rows: u32 },
 }
 

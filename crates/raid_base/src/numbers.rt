@@ -3,6 +3,8 @@ ghost use Rattle.std.specs.Prelude.{◌≡◌, ◌<◌, ◌^◌, ◌↔◌, IfSo
 ghost use Rattle.raid_base.specs.Numbers.{least_above, next_number};
 ghost use Rattle.raid_base.specs.Least.{IsLeastAbove, IsSpentAbove};
 
+use thiserror::Error;
+
 /// Every number is below this.
 pub const NUMBERS_END: u64 = 1 << 62;
 
@@ -28,7 +30,8 @@ pub struct RowNo(pub u16);
 pub struct Number(pub u64);
 
 /// No number is left above this one.
-#[derive(Clone, Copy, Debug, PartialEq, Eq)]
+#[derive(Clone, Copy, Debug, PartialEq, Eq, Error)]
+#[error("no number is left above {}", seen.0)]
 pub struct Spent {
     pub seen: Number,
 }

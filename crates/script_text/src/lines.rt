@@ -14,6 +14,7 @@ use crate::words::{are_numbers, is_text, only_number, read_rows, split_word, two
 use arrayvec::ArrayVec;
 use raid_base::{HostNo, Kind, Mode, Name, NoMemory, Turn};
 use std::alloc::Global;
+use thiserror::Error;
 use virtual_objects::{ObjectFault, Objects};
 
 /// The greatest number of objects.
@@ -42,9 +43,11 @@ pub(crate) enum Stage {
 }
 
 /// Why a line was not read.
-#[derive(Clone, Copy, Debug, PartialEq, Eq)]
+#[derive(Clone, Copy, Debug, PartialEq, Eq, Error)]
 pub(crate) enum LineFault {
+    #[error("bad line: {0}")]
     Bad(Kind),
+    #[error("memory")]
     NoMemory,
 }
 
