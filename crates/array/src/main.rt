@@ -19,9 +19,12 @@ use block_store::MemoryStore;
 use raid_base::streams::standard::{ReaderSource, WriterSink};
 use raid_base::{NoMemory, Sink, Source, Status};
 use std::alloc::Global;
-use std::io::ErrorKind;
+use std::io::{BufWriter, ErrorKind};
 use std::process::ExitCode;
 use std::{env, io};
+
+/// How many bytes go to standard output at a time.
+const BLOCK: usize = 1 << 16;
 
 /// How it ends if the arguments can't be had: one of them is no text, or there is no memory.
 fn status_without_words(kind: ErrorKind) -> Status
@@ -96,13 +99,17 @@ fn run_words<S: Source, K: Sink>(
 
 /// Does what the words behind the program's name say, over standard input and output.
 fn run(rt: &HostRuntime) -> Status {
+    let writer = match BufWriter::with_capacity(rt.alloc(), BLOCK, io::writer(rt)) {
+        Ok(writer) => writer,
+        Err(_) => return Status::Memory,
+    };
     let args = match arguments(rt) {
         Ok(args) => args,
         Err(status) => return status,
     };
     let words = behind_the_name(args.as_slice());
     let mut source = ReaderSource::over(rt.reader());
-    let mut sink = WriterSink::over(io::writer(rt));
+    let mut sink = WriterSink::over(writer);
     run_words(rt.alloc(), words, &mut source, &mut sink).unwrap_or(Status::Memory)
 }
 

@@ -308,7 +308,7 @@ module _ {K D : Type 0} (k : SinkGhosts K) (g : Ghosts D) where
           }
 
       go : (status : Status) → HasPrinted k (print report) sink after status → HasPlayed k g print script sink after stores outcome status
-      go Done p = (open-now, λ tells. (report, told-of tells, p))
+      go Done p = (open-now, p.0, λ tells. (report, told-of tells, p.1))
       go WriteFault p = (open-now, p.0, λ tells. (report, told-of tells, p.1))
       go Words p = absurd p
       go ReadFault p = absurd p

@@ -1,5 +1,5 @@
 -- What the parts of a call leave: a world that was played, how its report was printed, and the ends before it.
-use Rattle.std.specs.Prelude.{◌≡◌, ℕ, ◌<◌, ◌++◌, true, List, length, drop, Result, Ok, Err}
+use Rattle.std.specs.Prelude.{◌≡◌, ℕ, ◌<◌, ◌++◌, true, List, [], length, drop, Result, Ok, Err}
 use Rattle.raid_base.specs.declared.messages.Call.{Call}
 use Rattle.raid_base.specs.declared.status.Status.{Status}
 use Rattle.raid_base.specs.declared.status.Status.TheVariants.{Done, WriteFault, TooFewStores, TooSmall, StoreFault, Memory}
@@ -21,9 +21,9 @@ use Rattle.histories.specs.Turns.{all_ended, sim}
 use Rattle.array_cli.specs.declared.run.Outcome.{Outcome}
 use Rattle.array_cli.specs.Runs.{AllTell, IsEmpty, HasStopped}
 
--- how the printing of a text has ended
+-- how the printing of a text has ended: where it is done, nothing is held back any more
 abbrev pub HasPrinted : {K : Type 0} → SinkGhosts K → List ℕ → K → K → Status → Type 0
-HasPrinted k text sink after Done = k.tells sink ≡ true → k.written after ≡ k.written sink ++ text
+HasPrinted k text sink after Done = (k.held after ≡ []) × (k.tells sink ≡ true → k.written after ≡ k.written sink ++ text)
 HasPrinted k text sink after WriteFault = Rises (k.faults sink) (k.faults after) × (k.tells sink ≡ true → AppendsPart (k.written sink) (k.written after) text)
 HasPrinted k text sink after _ = ⊥
 

@@ -118,10 +118,10 @@ HasStopped g script stores outcome Memory =
     AreBack g script.n stores outcome.stores.items × IsEmpty outcome × AreUntouchedFrom (script.n - 1) stores outcome.stores.items
 HasStopped g script stores outcome _ = ⊥
 
--- The playing of a script over some stores, and what was printed of its report
+-- The playing of a script over some stores, and what was printed of its report. Where it is done, the sink holds nothing back any more
 abbrev pub HasPlayed : {K D : Type 0} → SinkGhosts K → StoreGhosts D → (ReportOf → List ℕ) → Script → K → K → List D → Outcome D → Status → Type 0
 HasPlayed k g print script sink after stores outcome Done =
-    IsOpened g script stores outcome
+    IsOpened g script stores outcome × (k.held after ≡ [])
     × (AllTell g script stores → (report : ReportOf) × IsReported script (handed_out g outcome) report
     × (k.tells sink ≡ true → k.written after ≡ k.written sink ++ print report))
 HasPlayed k g print script sink after stores outcome WriteFault =

@@ -1,7 +1,8 @@
 //! A run of a script from its text to its report.
-ghost use Rattle.std.specs.Prelude.{◌≡◌, ℕ, ◌++◌, ◌<◌, ◌≤◌, ◌^◌, Some, map, length, string_bytes, IfOk, IfErr};
+ghost use Rattle.std.specs.Prelude.{◌≡◌, ℕ, List, ◌++◌, ◌<◌, ◌≤◌, ◌^◌, Some, map, length, string_bytes, IfOk, IfErr};
 ghost use Rattle.script_text.specs.Ranges.{IsScript, all_jobs};
 ghost use Rattle.script_text.specs.Weights.{total};
+ghost use Rattle.report_text.specs.Appends.{Appends};
 ghost use Rattle.report_text.specs.Report.{report_text};
 ghost use Rattle.report_text.specs.Views.{report_in};
 ghost use Rattle.load_maker.specs.Summary.{summary_text};
@@ -94,6 +95,14 @@ fn closed<D: Store>(status: Status, world: World<'_, D>) -> Outcome<D>
     }
 }
 
+/// Lets go of what the sink holds back, once a text was written.
+fn flushed<K: Sink>(sink: &mut K, written: Result<(), Failed>) -> Result<(), Failed>
+    ensures { (before : K) (text : List ℕ) → Appends K.tells K.written K.faults before text written sink.old → HasPrinted K.Sink text before sink.new (status_of result) }
+{
+    written?;
+    sink.flush()
+}
+
 /// How a call ends whose text was printed, or could not be.
 fn status_of(printed: Result<(), Failed>) -> Status
     ensures { result ≡ status_of printed }
@@ -113,7 +122,8 @@ fn reported<K: Sink, D: Store>(sink: &mut K, world: World<'_, D>) -> Outcome<D>
     ensures results { result.results ≡ world.entry.gathered.results }
     ensures turns { result.turns ≡ world.entry.turns }
 {
-    let printed = write_report(sink, &world.view());
+    let written = write_report(sink, &world.view());
+    let printed = flushed(sink, written);
     closed(status_of(printed), world)
 }
 
@@ -196,7 +206,8 @@ fn summed<K: Sink, D: Store>(sink: &mut K, n: u32, world: World<'_, D>) -> Outco
     ensures results { result.results ≡ world.entry.gathered.results }
     ensures turns { result.turns ≡ world.entry.turns }
 {
-    let printed = write_summary(sink, n, &world.view());
+    let written = write_summary(sink, n, &world.view());
+    let printed = flushed(sink, written);
     closed(status_of(printed), world)
 }
 

@@ -19,6 +19,14 @@ pub record AppendsFirst (n : ℕ) (written later piece : List ℕ) : Type 0 wher
 abbrev pub AppendsPart : List ℕ → List ℕ → List ℕ → Type 0
 AppendsPart written later piece = (n : ℕ) × AppendsFirst n written later piece
 
+-- the bytes end so
+abbrev pub EndsWith : List ℕ → List ℕ → Type 0
+EndsWith bytes rest = (gone : List ℕ) × (bytes ≡ gone ++ rest)
+
+-- some first bytes that were held back are no longer, and the rest is
+abbrev pub HoldsRest : List ℕ → List ℕ → Type 0
+HoldsRest held later = (gone : List ℕ) × (held ≡ gone ++ later)
+
 -- a source in memory: the bytes that are left, which of its calls fail, how many were made, and how many of them failed
 pub record Feed : Type 0 where
   pub left : List ℕ

@@ -1,5 +1,5 @@
 //! A source and a sink in memory, which tell all and fail at the calls that they are told to fail at.
-ghost use Rattle.std.specs.Prelude.{◌≡◌, ◌≤◌, ◌<◌, ◌++◌, [], true, IfOk, OnOk, OnErr, is_err, length, take, drop};
+ghost use Rattle.std.specs.Prelude.{◌≡◌, ◌≤◌, ◌<◌, ◌++◌, [], true, IfOk, IsOk, OnOk, OnErr, is_err, length, take, drop};
 ghost use Rattle.raid_base.specs.Counts.{HasCause};
 ghost use Rattle.raid_base.specs.Streams.{Moves, AppendsPart, is_failing, moved_by, read_gives, read_leaves, write_fails, write_leaves};
 
@@ -160,11 +160,18 @@ impl MemorySink {
 }
 
 impl Sink for MemorySink {
+    ghost use Rattle.std.proofs.Common.{sym};
+    ghost use Rattle.std.proofs.lemmas.List.{append-nil};
+
     ghost written = { λ s. s.written };
+
+    ghost held = { λ s. [] };
 
     ghost tells = { λ s. true };
 
     ghost faults = { λ s. s.faults };
+
+    ghost last = { λ s tells. (s.written, sym (append-nil s.written)) };
 
     fn write_all(&mut self, piece: &[u8]) -> Result<(), Failed>
         ensures appended { OnOk result (self.new.written ≡ self.old.written ++ piece.now) }
@@ -185,6 +192,14 @@ impl Sink for MemorySink {
             self.faults = self.faults.saturating_add(1);
             return Err(Failed);
         }
+        Ok(())
+    }
+
+    fn flush(&mut self) -> Result<(), Failed>
+        ensures ok { IsOk result }
+        ensures same { self.new ≡ self.old }
+        ensures cause { HasCause self.old.faults self.new.faults (is_err result) }
+    {
         Ok(())
     }
 }
