@@ -1,73 +1,46 @@
 -- How the parts of one slot's code make up the rule.
-use Rattle.std.proofs.Common.{◌≡◌, ℕ, Bool, true, false, if◌then◌else◌, List, Option, Some, None, refl, sym, ap, subst, ◌∙◌}
+use Rattle.std.proofs.Common.{◌≡◌, ℕ, false, List, Option, Some, None, refl, sym, ap, subst, ◌∙◌}
 use Rattle.raid_base.specs.declared.numbers.Number.{Number}
 use Rattle.raid_base.specs.declared.messages.Mode.{Mode}
 use Rattle.raid_base.specs.declared.messages.Ask.{Ask}
 use Rattle.raid_base.specs.declared.messages.Reply.{Reply}
 use Rattle.raid_base.specs.declared.messages.Reply.TheVariants.{Missing}
 use Rattle.raid_base.specs.declared.messages.How.TheVariants.{Plain}
-use Rattle.raid_base.specs.declared.cells.Cell.{Cell}
-use Rattle.raid_base.specs.Replies.{is_fault}
 use Rattle.slot_rules.specs.declared.slot.BayState.{BayState}
-use Rattle.slot_rules.specs.declared.slot.SlotState.{SlotState}
 use Rattle.slot_rules.specs.Slots.{Slot, Bay}
-use Rattle.slot_rules.specs.Rules.{SlotOutcome, keeps, reads, wanted_cell, missing_floor, note_id, share_at, claim_at, confirm_missing}
-use Rattle.slot_rules.specs.Tables.{bay_of, with_block}
-use Rattle.slot_rules.specs.Parts.{RefusesShareBy, RefusesShare, RefusesClaimThere, RefusesClaim, RefusesConfirm, Served}
+use Rattle.slot_rules.specs.Rules.{keeps, missing_floor, note_id, share_at, claim_at, confirm_missing}
+use Rattle.slot_rules.specs.Tables.{Kept, bay_of, with_block}
+use Rattle.slot_rules.specs.Parts.{RefusesShareBy, RefusesShare, RefusesClaimThere, RefusesClaim, RefusesConfirm}
 
 -- the floor of a missing slot, whatever the other slots and its block
-abbrev pub FloorIs : BayState → SlotState → Option Number → Type 0
+abbrev pub FloorIs : BayState → Kept → Option Number → Type 0
 FloorIs state kept floor = (others : List Slot) (block : List ℕ) → floor ≡ missing_floor (bay_of state others) (with_block kept block)
 
-pub share-missing : (state : BayState) (kept : SlotState) (ask : Ask) (id : Number) (floor : Option Number) (n : Number) →
+pub share-missing : (state : BayState) (kept : Kept) (ask : Ask) (id : Number) (floor : Option Number) (n : Number) →
     FloorIs state kept floor → floor ≡ Some n → RefusesShare state kept ask id (Some (Missing n))
 share-missing state kept ask id floor n is some = λ others block want fails.
     ap (λ f. share_at (bay_of state others) (with_block kept block) ask id want fails f) (sym (is others block) ∙ some)
 
-pub share-there : (state : BayState) (kept : SlotState) (ask : Ask) (id : Number) (floor : Option Number) (mode : Mode) (refusal : Option Reply) →
+pub share-there : (state : BayState) (kept : Kept) (ask : Ask) (id : Number) (floor : Option Number) (mode : Mode) (refusal : Option Reply) →
     FloorIs state kept floor → floor ≡ None → state.mode ≡ mode → RefusesShareBy mode state kept ask id refusal → RefusesShare state kept ask id refusal
 share-there state kept ask id floor mode refusal is none m by = λ others block want fails.
     ap (λ f. share_at (bay_of state others) (with_block kept block) ask id want fails f) (sym (is others block) ∙ none)
     ∙ subst (λ (k : Mode). RefusesShareBy k state kept ask id refusal) (sym m) by others block want fails
 
-pub claim-missing : (state : BayState) (kept : SlotState) (ask : Ask) (id : Number) (floor : Option Number) (n : Number) →
+pub claim-missing : (state : BayState) (kept : Kept) (ask : Ask) (id : Number) (floor : Option Number) (n : Number) →
     FloorIs state kept floor → floor ≡ Some n → RefusesClaim state kept ask id Plain (Some (Missing n))
 claim-missing state kept ask id floor n is some = λ others block mask want fails.
     ap (λ f. claim_at (bay_of state others) (with_block kept block) ask id Plain mask want fails f) (sym (is others block) ∙ some)
 
-pub claim-there : (state : BayState) (kept : SlotState) (ask : Ask) (id : Number) (floor : Option Number) (refusal : Option Reply) →
+pub claim-there : (state : BayState) (kept : Kept) (ask : Ask) (id : Number) (floor : Option Number) (refusal : Option Reply) →
     FloorIs state kept floor → floor ≡ None → RefusesClaimThere state kept id Plain refusal → RefusesClaim state kept ask id Plain refusal
 claim-there state kept ask id floor refusal is none there = λ others block mask want fails.
     ap (λ f. claim_at (bay_of state others) (with_block kept block) ask id Plain mask want fails f) (sym (is others block) ∙ none)
     ∙ there others block ask mask want fails
 
-pub confirm-refused : (state : BayState) (kept : SlotState) (id : Number) (floor refloor : Option Number) (refusal : Reply) →
+pub confirm-refused : (state : BayState) (kept : Kept) (id : Number) (floor refloor : Option Number) (refusal : Reply) →
     FloorIs state kept floor → note_id kept.note id ≡ false → floor ≡ refloor →
     ((bay : Bay) (slot : Slot) → bay.life ≡ state.life → confirm_missing bay slot refloor ≡ keeps slot refusal) →
     RefusesConfirm state kept id (Some refusal)
 confirm-refused state kept id floor refloor refusal is none same by = λ others block want fails.
     rw none (ap (λ f. confirm_missing (bay_of state others) (with_block kept block) f) (sym (is others block) ∙ same) ∙ by (bay_of state others) (with_block kept block) refl)
-
--- where the store is read, the cell is what it shows
-pub read-cell : (want : Bool) (slot : Slot) (cell : Option Cell) (granted : SlotOutcome) → slot.cell ≡ cell → is_fault granted.reply ≡ false →
-    (if is_fault (reads want true slot granted).reply then slot.cell else None) ≡ wanted_cell want slot
-read-cell true slot None granted e f = rw (e, f) refl
-read-cell true slot (Some cell) granted e f = rw e refl
-read-cell false slot cell granted e f = rw f refl
-
-pub read-done : (want : Bool) (slot : Slot) (cell : Option Cell) (granted : SlotOutcome) → wanted_cell want slot ≡ cell → reads want false slot granted ≡ granted
-read-done want slot None granted e = rw e refl
-read-done want slot (Some cell) granted e = rw e refl
-
-pub served-refused : (outcome : Bool → SlotOutcome) (there cell : Option Cell) (slot : Slot) (refusal : Reply) →
-    ((fails : Bool) → outcome fails ≡ keeps slot refusal) → Served outcome there cell refusal slot
-served-refused outcome there cell slot refusal all = λ h. (sym (ap (λ (o : SlotOutcome). o.reply) (all false)), sym (ap (λ (o : SlotOutcome). o.slot) (all false)))
-
-pub served-granted : (outcome : Bool → SlotOutcome) (want : Bool) (slot : Slot) (cell : Option Cell) (granted : SlotOutcome) (reply : Reply) (left : Slot) →
-    ((fails : Bool) → outcome fails ≡ reads want fails slot granted) → is_fault granted.reply ≡ false →
-    (cell ≡ wanted_cell want slot → (reply ≡ granted.reply) × (left ≡ granted.slot)) → Served outcome slot.cell cell reply left
-served-granted outcome want slot cell granted reply left all f ends = λ h.
-    let done : outcome false ≡ granted = all false ∙ read-done want slot _ granted refl in
-    let shown : cell ≡ wanted_cell want slot = h ∙ (ap (λ (o : SlotOutcome). if is_fault o.reply then slot.cell else None) (all true) ∙ read-cell want slot _ granted refl f) in
-    let both = ends shown in
-    (both.0 ∙ sym (ap (λ (o : SlotOutcome). o.reply) done), both.1 ∙ sym (ap (λ (o : SlotOutcome). o.slot) done))

@@ -2,11 +2,10 @@
 use Rattle.std.proofs.Common.{◌≡◌, ℕ, zero, suc, ◌<◌, List, [], ◌∷◌, length, map, replicate, take, slice_index_or, slice_set, refl, ap, ◌∙◌, arith}
 use Rattle.raid_base.specs.declared.numbers.Number.{Number}
 use Rattle.raid_base.specs.Cells.{zeros}
-use Rattle.slot_rules.specs.declared.slot.SlotState.{SlotState}
 use Rattle.slot_rules.specs.Slots.{Slot, first_slot, bare_slot}
-use Rattle.slot_rules.specs.Tables.{with_block, slots_with, first_kept, bare_kept}
+use Rattle.slot_rules.specs.Tables.{Kept, with_block, slots_with, first_kept, bare_kept}
 
-pub slots-length : (slots : List SlotState) (blocks : List (List ℕ)) → length (slots_with slots blocks) ≡ length slots
+pub slots-length : (slots : List Kept) (blocks : List (List ℕ)) → length (slots_with slots blocks) ≡ length slots
 slots-length [] blocks = refl
 slots-length (slot ∷ slots) [] = ap suc (slots-length slots [])
 slots-length (slot ∷ slots) (block ∷ blocks) = ap suc (slots-length slots blocks)
@@ -16,7 +15,7 @@ nothing_there zero = refl
 nothing_there (suc row) = refl
 
 -- the slot of a row, with its block
-pub slot-there : (slots : List SlotState) (blocks : List (List ℕ)) (row : ℕ) (d : Slot) (e : SlotState) → row < length slots →
+pub slot-there : (slots : List Kept) (blocks : List (List ℕ)) (row : ℕ) (d : Slot) (e : Kept) → row < length slots →
     slice_index_or (slots_with slots blocks) row d ≡ with_block (slice_index_or slots row e) (slice_index_or blocks row [])
 slot-there [] blocks row d e l = absurd (omega arith)
 slot-there (slot ∷ slots) [] zero d e l = refl
@@ -25,14 +24,14 @@ slot-there (slot ∷ slots) (block ∷ blocks) zero d e l = refl
 slot-there (slot ∷ slots) (block ∷ blocks) (suc row) d e l = slot-there slots blocks row d e (omega arith)
 
 -- a row with another slot and another block
-pub slots-set : (slots : List SlotState) (blocks : List (List ℕ)) (row : ℕ) (slot : SlotState) (block : List ℕ) → row < length slots → row < length blocks →
+pub slots-set : (slots : List Kept) (blocks : List (List ℕ)) (row : ℕ) (slot : Kept) (block : List ℕ) → row < length slots → row < length blocks →
     slots_with (slice_set slots row slot) (slice_set blocks row block) ≡ slice_set (slots_with slots blocks) row (with_block slot block)
 slots-set [] blocks row slot block l k = absurd (omega arith)
 slots-set (s ∷ slots) [] row slot block l k = absurd (omega arith)
 slots-set (s ∷ slots) (b ∷ blocks) zero slot block l k = refl
 slots-set (s ∷ slots) (b ∷ blocks) (suc row) slot block l k = ap (λ t. with_block s b ∷ t) (slots-set slots blocks row slot block (omega arith) (omega arith))
 
-pub slots-bare : (n : Number) (slots : List SlotState) (blocks : List (List ℕ)) →
+pub slots-bare : (n : Number) (slots : List Kept) (blocks : List (List ℕ)) →
     slots_with (map (λ _. bare_kept n) slots) blocks ≡ map (λ _. bare_slot n) (slots_with slots blocks)
 slots-bare n [] blocks = refl
 slots-bare n (slot ∷ slots) [] = ap (λ t. bare_slot n ∷ t) (slots-bare n slots [])
@@ -53,11 +52,8 @@ slots-first (suc n) (block ∷ blocks) e =
     let rest : take n blocks ≡ replicate n zeros = cc in
     slots-first_more n block blocks first (slots-first n blocks rest)
 
--- a list that has the same at each place
-pub all_same : (b : SlotState) (xs ys : List SlotState) (d : SlotState) → length ys ≡ length xs →
-    ((k : ℕ) → k < length xs → slice_index_or ys k d ≡ b) → ys ≡ map (λ _. b) xs
-all_same b [] [] d e h = refl
-all_same b [] (y ∷ ys) d e h = absurd (omega arith)
-all_same b (x ∷ xs) [] d e h = absurd (omega arith)
-all_same b (x ∷ xs) (y ∷ ys) d e h =
-    ap (λ z. z ∷ ys) (h 0 (omega arith)) ∙ ap (λ t. b ∷ t) (all_same b xs ys d (omega arith) (λ k l. h (suc k) (omega arith)))
+-- inside a list the value for outside doesn't matter
+pub read-own : {X : Type 0} (xs : List X) (row : ℕ) (d e : X) → row < length xs → slice_index_or xs row d ≡ slice_index_or xs row e
+read-own [] row d e l = absurd (omega arith)
+read-own (x ∷ xs) zero d e l = refl
+read-own (x ∷ xs) (suc row) d e l = read-own xs row d e (omega arith)

@@ -11,20 +11,19 @@ use Rattle.raid_base.specs.declared.messages.Request.TheVariants.{Share, Claim, 
 use Rattle.raid_base.specs.Numbers.{number}
 use Rattle.raid_base.specs.Replies.{is_fault}
 use Rattle.slot_rules.specs.declared.slot.BayState.{BayState}
-use Rattle.slot_rules.specs.declared.slot.SlotState.{SlotState}
 use Rattle.slot_rules.specs.declared.slot.Verdict.{Verdict}
 use Rattle.slot_rules.specs.Slots.{Slot, Bay, bare_slot, slot_of}
 use Rattle.slot_rules.specs.Rules.{Outcome, raised, note_id, put_rule, share_rule, claim_rule, confirm_rule, release_rule, with_slot, lose_rule, fit_rule, rule_of, rule}
-use Rattle.slot_rules.specs.Tables.{Table, bay_of, with_block, slots_with, with_blocks, bare_kept, lost_of}
+use Rattle.slot_rules.specs.Tables.{Kept, Table, bay_of, with_block, slots_with, with_blocks, bare_kept, lost_of}
 use Rattle.slot_rules.specs.Serving.{row_of, slot_rule, verdict_for, verdict_of, needed_cell, cell_at, served_cell, blocks_after}
-use Rattle.slot_rules.specs.Parts.{block_after, ServedSlot, ServedRow, device_after}
+use Rattle.slot_rules.specs.Parts.{block_after, block_left, ServedSlot, ServedRow, device_after}
 use Rattle.slot_rules.proofs.TableLists.{slot-there, slots-set, slots-bare}
 
 -- the slot of a row
-pub slot_of-there : (table : Table) (blocks : List (List ℕ)) (row : RowNo) (slot : SlotState) → row.0 < length table.slots → slot ≡ slice_index_or table.slots row.0 slot →
+pub slot_of-there : (table : Table) (blocks : List (List ℕ)) (row : RowNo) (slot : Kept) → row.0 < length table.slots → slot ≡ slice_index_or table.slots row.0 slot →
     slot_of (with_blocks table blocks) row ≡ with_block slot (slice_index_or blocks row.0 [])
 slot_of-there table blocks row slot l e =
-    slot-there table.slots blocks row.0 (bare_slot (number 0)) slot l ∙ ap (λ (s : SlotState). with_block s (slice_index_or blocks row.0 [])) (sym e)
+    slot-there table.slots blocks row.0 (bare_slot (number 0)) slot l ∙ ap (λ (s : Kept). with_block s (slice_index_or blocks row.0 [])) (sym e)
 
 -- a request of a row changes the slot of that row
 pub rule_of-row : (bay : Bay) (ask : Ask) (fails : Bool) (what : Request) (row : RowNo) → row_of what ≡ Some row →
@@ -42,7 +41,7 @@ rule_of-row bay ask fails (Release r id n) row e =
 rule_of-row bay ask fails Lose row e = cc
 rule_of-row bay ask fails Fit row e = cc
 
-pub verdict-row : (table : Table) (blocks : List (List ℕ)) (ask : Ask) (row : RowNo) (slot : SlotState) (verdict : Verdict) →
+pub verdict-row : (table : Table) (blocks : List (List ℕ)) (ask : Ask) (row : RowNo) (slot : Kept) (verdict : Verdict) →
     row_of ask.what ≡ Some row → row.0 < length table.slots → slot ≡ slice_index_or table.slots row.0 slot →
     ((others : List Slot) (block : List ℕ) → verdict ≡ verdict_for ask.what (slot_rule (bay_of table.state others) (with_block slot block) ask true ask.what).reply) →
     verdict ≡ verdict_of (with_blocks table blocks) ask
@@ -51,25 +50,25 @@ verdict-row table blocks ask row slot verdict is l e all =
     ∙ ap (λ (s : Slot). verdict_for ask.what (slot_rule (with_blocks table blocks) s ask true ask.what).reply) (sym (slot_of-there table blocks row slot l e))
     ∙ ap (λ (o : Outcome). verdict_for ask.what o.reply) (sym (rule_of-row (with_blocks table blocks) ask true ask.what row is))
 
-pub note-there : (table : Table) (row : RowNo) (slot : SlotState) → row.0 < length table.slots → slot ≡ slice_index_or table.slots row.0 slot →
+pub note-there : (table : Table) (row : RowNo) (slot : Kept) → row.0 < length table.slots → slot ≡ slice_index_or table.slots row.0 slot →
     (blocks : List (List ℕ)) → slot.note ≡ (slot_of (with_blocks table blocks) row).note
 note-there table row slot l e = λ blocks. ap (λ (s : Slot). s.note) (sym (slot_of-there table blocks row slot l e))
 
-blank_cell : (mark : Option ℕ) (slot : SlotState) (block : List ℕ) → slot.mark ≡ mark → is_none slot.mark ≡ is_none (with_block slot block).cell
+blank_cell : (mark : Option ℕ) (slot : Kept) (block : List ℕ) → slot.mark ≡ mark → is_none slot.mark ≡ is_none (with_block slot block).cell
 blank_cell None slot block e = rw e refl
 blank_cell (Some lost) slot block e = rw e refl
 
-pub missing-there : (table : Table) (row : RowNo) (slot : SlotState) → row.0 < length table.slots → slot ≡ slice_index_or table.slots row.0 slot →
+pub missing-there : (table : Table) (row : RowNo) (slot : Kept) → row.0 < length table.slots → slot ≡ slice_index_or table.slots row.0 slot →
     (blocks : List (List ℕ)) → is_none slot.mark ≡ is_none (slot_of (with_blocks table blocks) row).cell
 missing-there table row slot l e = λ blocks.
     blank_cell _ slot (slice_index_or blocks row.0 []) refl
     ∙ ap (λ (s : Slot). is_none s.cell) (sym (slot_of-there table blocks row slot l e))
 
-mark_cell : (mark : Option ℕ) (slot : SlotState) (block : List ℕ) → slot.mark ≡ mark → unwrap_or slot.mark 0 ≡ lost_of (with_block slot block).cell
+mark_cell : (mark : Option ℕ) (slot : Kept) (block : List ℕ) → slot.mark ≡ mark → unwrap_or slot.mark 0 ≡ lost_of (with_block slot block).cell
 mark_cell None slot block e = rw e refl
 mark_cell (Some lost) slot block e = rw e refl
 
-pub mark-there : (table : Table) (row : RowNo) (slot : SlotState) → row.0 < length table.slots → slot ≡ slice_index_or table.slots row.0 slot →
+pub mark-there : (table : Table) (row : RowNo) (slot : Kept) → row.0 < length table.slots → slot ≡ slice_index_or table.slots row.0 slot →
     (blocks : List (List ℕ)) → unwrap_or slot.mark 0 ≡ lost_of (slot_of (with_blocks table blocks) row).cell
 mark-there table row slot l e = λ blocks.
     mark_cell _ slot (slice_index_or blocks row.0 []) refl
@@ -81,41 +80,41 @@ put-block : (bay : Bay) (slot : Slot) (row : RowNo) (id n : Number) (new : Cell)
 put-block bay slot row id n new cell block true e h = let c : cell ≡ Some new = rw e at h in rw e (ap (λ x. block_after (Put row id n new) x block) c)
 put-block bay slot row id n new cell block false e h = let c : cell ≡ None = rw e at h in rw e (ap (λ x. block_after (Put row id n new) x block) c)
 
-pub put-served : (state : BayState) (kept left : SlotState) (reply : Reply) (row : RowNo) (id n : Number) (new : Cell) (cell : Option Cell) →
-    ((others : List Slot) (block : List ℕ) →
-    (reply ≡ (put_rule (bay_of state others) (with_block kept block) id n new false).reply)
-    × (with_block left (if note_id kept.note id then new.bytes else block) ≡ (put_rule (bay_of state others) (with_block kept block) id n new false).slot)) →
-    (others : List Slot) (block : List ℕ) →
-    cell ≡ (if is_fault (put_rule (bay_of state others) (with_block kept block) id n new true).reply then Some new else None) →
-    (reply ≡ (put_rule (bay_of state others) (with_block kept block) id n new false).reply)
-    × (with_block left (block_after (Put row id n new) cell block) ≡ (put_rule (bay_of state others) (with_block kept block) id n new false).slot)
-put-served state kept left reply row id n new cell all = λ others block h.
-    let both = all others block in
-    let same = put-block (bay_of state others) (with_block kept block) row id n new cell block _ refl h in
-    (both.0, ap (λ b. with_block left b) same ∙ both.1)
+-- what is written is the new cell's block, where the store did its part
+block_same : (state : BayState) (others : List Slot) (kept : Kept) (ask : Ask) (cell : Option Cell) (block : List ℕ) (what : Request) →
+    cell ≡ (if is_fault (slot_rule (bay_of state others) (with_block kept block) ask true what).reply then needed_cell what (with_block kept block).cell else None) →
+    block_after what cell block ≡ block_left what kept.note block
+block_same state others kept ask cell block (Put row id n new) h = put-block (bay_of state others) (with_block kept block) row id n new cell block _ refl h
+block_same state others kept ask cell block (Share row id want) h = refl
+block_same state others kept ask cell block (Claim row id how mask want) h = refl
+block_same state others kept ask cell block (Confirm row id want) h = refl
+block_same state others kept ask cell block (Release row id n) h = refl
+block_same state others kept ask cell block Lose h = refl
+block_same state others kept ask cell block Fit h = refl
 
 -- a served row: the slot and its block, and the high number
-pub served-row : (table : Table) (row : RowNo) (ask : Ask) (cell : Option Cell) (slot left : SlotState) (reply : Reply) (high : Number) →
+pub served-row : (table : Table) (row : RowNo) (ask : Ask) (cell : Option Cell) (slot left : Kept) (reply : Reply) (high : Number) (order : List RowNo) →
     row.0 < length table.slots → slot ≡ slice_index_or table.slots row.0 slot → ServedSlot table.state ask cell slot reply left →
     high ≡ raised (raised table.state.high slot.read_no left.read_no) slot.write_no left.write_no →
-    ServedRow row ask cell table reply (record { state = record table.state { high = high }; slots = slice_set table.slots row.0 left })
-served-row table row ask cell slot left reply high l e served he = λ blocks.
+    ServedRow row ask cell table reply (record { state = record table.state { high = high }; slots = slice_set table.slots row.0 left; order = order })
+served-row table row ask cell slot left reply high order l e served he = λ blocks.
     let block = slice_index_or blocks row.0 [] in
     let bay = with_blocks table blocks in
     let after = block_after ask.what cell block in
-    let new : Table = record { state = record table.state { high = high }; slots = slice_set table.slots row.0 left } in
+    let new : Table = record { state = record table.state { high = high }; slots = slice_set table.slots row.0 left; order = order } in
     subst
     (λ (s : Slot). cell ≡ (if is_fault (slot_rule bay s ask true ask.what).reply then needed_cell ask.what s.cell else None) →
     (reply ≡ (slot_rule bay s ask false ask.what).reply)
     × (length table.slots ≤ length blocks → with_blocks new (slice_set blocks row.0 after) ≡ (with_slot bay row s (slot_rule bay s ask false ask.what)).bay))
     (sym (slot_of-there table blocks row slot l e))
     (λ h.
-    let both = served (slots_with table.slots blocks) block h in (
-      both.0,
+    let both = served (slots_with table.slots blocks) block in
+    let same : block_after ask.what cell block ≡ block_left ask.what slot.note block = block_same table.state (slots_with table.slots blocks) slot ask cell block ask.what h in (
+      both.0 h,
       λ few.
           ap (λ (t : List Slot). bay_of (record table.state { high = high }) t) (slots-set table.slots blocks row.0 left after l (omega arith))
           ∙ ap (λ (k : Number). bay_of (record table.state { high = k }) (slice_set (slots_with table.slots blocks) row.0 (with_block left after))) he
-          ∙ ap (λ (o : Slot). (with_slot bay row (with_block slot block) (record { reply = reply; slot = o })).bay) both.1,
+          ∙ ap (λ (o : Slot). (with_slot bay row (with_block slot block) (record { reply = reply; slot = o })).bay) (ap (λ b. with_block left b) same ∙ both.1),
     ))
 
 -- the blocks that a request of a row leaves
@@ -152,13 +151,13 @@ applied-row table new row ask cell reply is served blocks few h =
     ∙ ap (λ (o : Outcome). o.bay) (sym (rule_of-row bay ask false ask.what row is))
 
 lost_by : (table : Table) (blocks : List (List ℕ)) (b : Bool) →
-    with_blocks (if b then table else record { state = record table.state { empty = true; life = table.state.life + 1 }; slots = map (λ _. bare_kept (number 0)) table.slots }) blocks
+    with_blocks (if b then table else record { state = record table.state { empty = true; life = table.state.life + 1 }; slots = map (λ _. bare_kept (number 0)) table.slots; order = [] }) blocks
     ≡ (lose_rule (with_blocks table blocks) b).bay
 lost_by table blocks true = refl
 lost_by table blocks false = ap (λ (t : List Slot). bay_of (record table.state { empty = true; life = table.state.life + 1 }) t) (slots-bare (number 0) table.slots blocks)
 
 fitted_by : (table : Table) (blocks : List (List ℕ)) (b : Bool) →
-    with_blocks (if b then record { state = record table.state { empty = false }; slots = map (λ _. bare_kept table.state.high) table.slots } else table) blocks
+    with_blocks (if b then record { state = record table.state { empty = false }; slots = map (λ _. bare_kept table.state.high) table.slots; order = table.order } else table) blocks
     ≡ (fit_rule (with_blocks table blocks) b).bay
 fitted_by table blocks true = ap (λ (t : List Slot). bay_of (record table.state { empty = false }) t) (slots-bare table.state.high table.slots blocks)
 fitted_by table blocks false = refl

@@ -7,6 +7,7 @@ use Rattle.raid_base.specs.declared.messages.Mode.{Mode}
 use Rattle.raid_base.specs.declared.messages.Mode.TheVariants.{Lock, Order}
 use Rattle.raid_base.specs.declared.messages.How.{How}
 use Rattle.raid_base.specs.declared.messages.Ask.{Ask}
+use Rattle.raid_base.specs.declared.messages.Note.{Note}
 use Rattle.raid_base.specs.declared.messages.Reply.{Reply}
 use Rattle.raid_base.specs.declared.messages.Reply.TheVariants.{Held, Emptied, Fitted}
 use Rattle.raid_base.specs.declared.messages.Request.{Request}
@@ -14,12 +15,11 @@ use Rattle.raid_base.specs.declared.messages.Request.TheVariants.{Share, Claim, 
 use Rattle.raid_base.specs.Numbers.{number}
 use Rattle.raid_base.specs.Replies.{is_fault, is_missing}
 use Rattle.slot_rules.specs.declared.slot.BayState.{BayState}
-use Rattle.slot_rules.specs.declared.slot.SlotState.{SlotState}
 use Rattle.slot_rules.specs.declared.slot.Verdict.{Verdict}
 use Rattle.slot_rules.specs.declared.slot.Verdict.TheVariants.{Say, NeedRead}
 use Rattle.slot_rules.specs.Slots.{Slot, Bay, slot_of}
-use Rattle.slot_rules.specs.Rules.{SlotOutcome, keeps, reads, wanted_cell, share_rule, share_by, share_granted_lock, share_granted_order, claim_rule, claim_at, claim_granted, seize_rule, seize_granted, confirm_rule, with_slot}
-use Rattle.slot_rules.specs.Tables.{bay_of, with_block, Table, with_blocks, bare_kept}
+use Rattle.slot_rules.specs.Rules.{SlotOutcome, keeps, reads, wanted_cell, share_rule, share_by, share_granted_lock, share_granted_order, claim_rule, claim_at, claim_granted, seize_rule, seize_granted, confirm_rule, note_id, with_slot}
+use Rattle.slot_rules.specs.Tables.{Kept, bay_of, with_block, Table, with_blocks, bare_kept}
 use Rattle.slot_rules.specs.Serving.{slot_rule, needed_cell}
 
 -- the refusal, or else this
@@ -38,7 +38,7 @@ share_granted Lock bay slot ask id want = share_granted_lock bay slot ask id wan
 share_granted Order bay slot ask id want = share_granted_order bay slot id want
 
 -- the same where the slot isn't missing
-abbrev pub RefusesShareBy : Mode → BayState → SlotState → Ask → Number → Option Reply → Type 0
+abbrev pub RefusesShareBy : Mode → BayState → Kept → Ask → Number → Option Reply → Type 0
 RefusesShareBy mode state kept ask id refusal =
     (others : List Slot) (block : List ℕ) (want fails : Bool) →
     share_by mode (bay_of state others) (with_block kept block) ask id want fails
@@ -46,7 +46,7 @@ RefusesShareBy mode state kept ask id refusal =
     (reads want fails (with_block kept block) (share_granted mode (bay_of state others) (with_block kept block) ask id want))
 
 -- a share is refused so, or else the cell is read where it is wanted
-abbrev pub RefusesShare : BayState → SlotState → Ask → Number → Option Reply → Type 0
+abbrev pub RefusesShare : BayState → Kept → Ask → Number → Option Reply → Type 0
 RefusesShare state kept ask id refusal =
     (others : List Slot) (block : List ℕ) (want fails : Bool) →
     share_rule (bay_of state others) (with_block kept block) ask id want fails
@@ -54,7 +54,7 @@ RefusesShare state kept ask id refusal =
     (reads want fails (with_block kept block) (share_granted state.mode (bay_of state others) (with_block kept block) ask id want))
 
 -- a claim is refused so where no floor stands against it
-abbrev pub RefusesClaimThere : BayState → SlotState → Number → How → Option Reply → Type 0
+abbrev pub RefusesClaimThere : BayState → Kept → Number → How → Option Reply → Type 0
 RefusesClaimThere state kept id how refusal =
     (others : List Slot) (block : List ℕ) (ask : Ask) (mask : ℕ) (want fails : Bool) →
     claim_at (bay_of state others) (with_block kept block) ask id how mask want fails None
@@ -62,7 +62,7 @@ RefusesClaimThere state kept id how refusal =
     (reads want fails (with_block kept block) (claim_granted (bay_of state others) (with_block kept block) ask id mask want))
 
 -- a claim, plain or to mend, is refused so, or else the cell is read where it is wanted
-abbrev pub RefusesClaim : BayState → SlotState → Ask → Number → How → Option Reply → Type 0
+abbrev pub RefusesClaim : BayState → Kept → Ask → Number → How → Option Reply → Type 0
 RefusesClaim state kept ask id how refusal =
     (others : List Slot) (block : List ℕ) (mask : ℕ) (want fails : Bool) →
     claim_rule how (bay_of state others) (with_block kept block) ask id mask want fails
@@ -79,7 +79,7 @@ seize_refused_or empty slot (Some reply) outcome = keeps (seize_left empty reply
 seize_refused_or empty slot None outcome = outcome
 
 -- a seizure is refused so, or else the cell is read where it is wanted
-abbrev pub RefusesSeize : BayState → SlotState → Ask → Number → Option Reply → Type 0
+abbrev pub RefusesSeize : BayState → Kept → Ask → Number → Option Reply → Type 0
 RefusesSeize state kept ask id refusal =
     (others : List Slot) (block : List ℕ) (mask : ℕ) (want fails : Bool) →
     seize_rule (bay_of state others) (with_block kept block) ask id mask want fails
@@ -87,7 +87,7 @@ RefusesSeize state kept ask id refusal =
     (reads want fails (with_block kept block) (seize_granted (bay_of state others) (with_block kept block) ask id mask want kept.note))
 
 -- a confirm is refused so, or else the cell is read where it is wanted
-abbrev pub RefusesConfirm : BayState → SlotState → Number → Option Reply → Type 0
+abbrev pub RefusesConfirm : BayState → Kept → Number → Option Reply → Type 0
 RefusesConfirm state kept id refusal =
     (others : List Slot) (block : List ℕ) (want fails : Bool) →
     confirm_rule (bay_of state others) (with_block kept block) id want fails
@@ -100,11 +100,11 @@ verdict_after (Some reply) read grant = Say reply
 verdict_after None true grant = NeedRead
 verdict_after None false grant = Say grant
 
--- a request was served: where this cell is the one that the store was needed for, and there is none where it wasn't,
--- the reply and what is left are those of the rule where the store doesn't fail
+-- a request was served: what is left is what the rule leaves where the store doesn't fail, and so is the reply where this
+-- cell is the one that the store was needed for, and there is none where it wasn't
 abbrev pub Served : (Bool → SlotOutcome) → Option Cell → Option Cell → Reply → Slot → Type 0
 Served outcome there cell reply left =
-    cell ≡ (if is_fault (outcome true).reply then there else None) → (reply ≡ (outcome false).reply) × (left ≡ (outcome false).slot)
+    (cell ≡ (if is_fault (outcome true).reply then there else None) → reply ≡ (outcome false).reply) × (left ≡ (outcome false).slot)
 
 -- a block after a request, where this cell was read or written
 abbrev pub block_after : Request → Option Cell → List ℕ → List ℕ
@@ -117,13 +117,18 @@ block_after (Release row id n) cell block = block
 block_after Lose cell block = block
 block_after Fit cell block = block
 
+-- a block after a request was served, where the store doesn't fail: a put with the open note's id wrote it
+abbrev pub block_left : Request → Option Note → List ℕ → List ℕ
+block_left (Put row id n new) noted block = if note_id noted id then new.bytes else block
+block_left _ noted block = block
+
 -- one slot was asked, and its block is this
-abbrev pub ServedSlot : BayState → Ask → Option Cell → SlotState → Reply → SlotState → Type 0
+abbrev pub ServedSlot : BayState → Ask → Option Cell → Kept → Reply → Kept → Type 0
 ServedSlot state ask cell kept reply left =
     (others : List Slot) (block : List ℕ) →
-    cell ≡ (if is_fault (slot_rule (bay_of state others) (with_block kept block) ask true ask.what).reply then needed_cell ask.what (with_block kept block).cell else None) →
-    (reply ≡ (slot_rule (bay_of state others) (with_block kept block) ask false ask.what).reply)
-    × (with_block left (block_after ask.what cell block) ≡ (slot_rule (bay_of state others) (with_block kept block) ask false ask.what).slot)
+    (cell ≡ (if is_fault (slot_rule (bay_of state others) (with_block kept block) ask true ask.what).reply then needed_cell ask.what (with_block kept block).cell else None) →
+    reply ≡ (slot_rule (bay_of state others) (with_block kept block) ask false ask.what).reply)
+    × (with_block left (block_left ask.what kept.note block) ≡ (slot_rule (bay_of state others) (with_block kept block) ask false ask.what).slot)
 
 -- a row was asked, and the slots are over these blocks
 abbrev pub ServedRow : RowNo → Ask → Option Cell → Table → Reply → Table → Type 0
@@ -141,11 +146,11 @@ device_reply _ = Fitted
 
 -- the slots without the device
 abbrev pub table_lost : Table → Table
-table_lost table = if table.state.empty then table else record { state = record table.state { empty = true; life = table.state.life + 1 }; slots = map (λ _. bare_kept (number 0)) table.slots }
+table_lost table = if table.state.empty then table else record { state = record table.state { empty = true; life = table.state.life + 1 }; slots = map (λ _. bare_kept (number 0)) table.slots; order = [] }
 
 -- the slots with a device again
 abbrev pub table_fitted : Table → Table
-table_fitted table = if table.state.empty then record { state = record table.state { empty = false }; slots = map (λ _. bare_kept table.state.high) table.slots } else table
+table_fitted table = if table.state.empty then record { state = record table.state { empty = false }; slots = map (λ _. bare_kept table.state.high) table.slots; order = table.order } else table
 
 -- the slots after a request without a row
 abbrev pub device_after : Request → Table → Table

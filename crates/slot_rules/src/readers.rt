@@ -1,5 +1,5 @@
 //! The hosts that read one slot under locks.
-ghost use Rattle.std.specs.Prelude.{◌≡◌, ◌<◌, ◌==◌, ◌++◌, ◌∷◌, [], not, find};
+ghost use Rattle.std.specs.Prelude.{◌≡◌, ◌<◌, ◌==◌, ◌++◌, ◌∷◌, [], not, find, length};
 ghost use Rattle.slot_rules.specs.Readers.{is_old_or_own, is_of_host};
 ghost use Rattle.slot_rules.specs.Rules.{is_reader, is_same_host, other_readers};
 
@@ -48,6 +48,13 @@ impl Readers {
         Readers {
             readers: ArrayVec::new(),
         }
+    }
+
+    /// Whether there is none.
+    pub fn is_empty(&self) -> bool
+        ensures { result ≡ (length self.now == 0) }
+    {
+        self.readers.is_empty()
     }
 
     /// The reader with this id.

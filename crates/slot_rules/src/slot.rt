@@ -6,8 +6,8 @@ ghost use Rattle.std.specs.Prelude.{◌≡◌};
 ghost use Rattle.raid_base.specs.Numbers.{greater};
 ghost use Rattle.slot_rules.specs.Rules.{raised};
 
-use crate::Reader;
-use crate::readers::{Readers, is_old_or_own};
+use crate::opened::Open;
+use crate::readers::is_old_or_own;
 use raid_base::{Ask, Cell, How, Mode, Note, Number, Reply, Request};
 
 /// What the rule makes of an ask before the store is asked.
@@ -34,19 +34,17 @@ pub struct BayState {
     pub life: u32,
 }
 
-/// A slot, all but its block. It has a mark, the `lost` of its cell, unless it is blank.
-#[derive(Debug, Drop)]
+/// The mark and the numbers of a slot. It has a mark, the `lost` of its cell, unless it is blank.
+#[derive(Clone, Copy, Debug, PartialEq, Eq)]
 pub struct SlotState {
     pub mark: Option<u16>,
     pub read_no: Number,
     pub write_no: Number,
     pub last: Number,
-    pub note: Option<Note>,
-    pub readers: Readers,
 }
 
 impl SlotState {
-    ghost use Rattle.slot_rules.specs.Tables.{first_kept, bare_kept};
+    ghost use Rattle.slot_rules.specs.Tables.{kept_slot};
     ghost use Rattle.slot_rules.specs.Serving.{row_of};
     ghost use Rattle.slot_rules.specs.Parts.{ServedSlot};
     ghost use Rattle.std.specs.Prelude.{◌≡◌, ◌<◌, ◌&&◌, List, ℕ, Bool, Option, true, false, None, Some, is_some, IsTrue, find, if◌then◌else◌};
@@ -55,51 +53,16 @@ impl SlotState {
     ghost use Rattle.raid_base.specs.declared.numbers.RowNo.{RowNo};
     ghost use Rattle.raid_base.specs.Replies.{is_done};
     ghost use Rattle.slot_rules.specs.declared.slot.BayState.{BayState};
+    ghost use Rattle.slot_rules.specs.declared.opened.Open.{Open};
     ghost use Rattle.slot_rules.specs.Slots.{Slot};
     ghost use Rattle.slot_rules.specs.Rules.{missing_floor, is_same_host, is_late, note_id, is_reader, with_reader, share_rule, claim_rule, seize_rule, confirm_rule, put_rule, release_rule};
     ghost use Rattle.slot_rules.specs.Tables.{bay_of, with_block};
     ghost use Rattle.slot_rules.specs.Serving.{verdict_for, slot_rule};
     ghost use Rattle.slot_rules.specs.Parts.{RefusesShareBy, RefusesShare, RefusesClaimThere, RefusesClaim, RefusesSeize, RefusesConfirm, is_refusal, verdict_after, Served};
 
-    /// A slot at the start: zeros, and nothing lost.
-    pub fn first() -> SlotState
-        ensures { result ≡ first_kept }
-    {
-        SlotState {
-            mark: Some(0),
-            read_no: Number(0),
-            write_no: Number(0),
-            last: Number(0),
-            note: None,
-            readers: Readers::new(),
-        }
-    }
-
-    /// Makes it blank, with both numbers this one.
-    pub fn strip(&mut self, number: Number)
-        ensures { self.new ≡ bare_kept number }
-    {
-        self.mark = None;
-        self.read_no = number;
-        self.write_no = number;
-        self.last = Number(0);
-        self.note = None;
-        self.readers.clear();
-    }
-
-    /// Whether the open note has this id.
-    fn has_note(&self, id: Number) -> bool
-        ensures { result ≡ note_id self.now.note id }
-    {
-        match self.note {
-            Some(note) => note.id.0 == id.0,
-            None => false,
-        }
-    }
-
     /// The floor with which it answers where it is missing.
     fn missing_floor(&self, state: &BayState) -> Option<Number>
-        ensures { (others : List Slot) (block : List ℕ) → result ≡ missing_floor (bay_of state.now others) (with_block self.now block) }
+        ensures { (open_row : Open) (others : List Slot) (block : List ℕ) → result ≡ missing_floor (bay_of state.now others) (with_block (kept_slot self.now open_row) block) }
     {
         if state.empty {
             return Some(state.high);
@@ -110,29 +73,12 @@ impl SlotState {
         }
     }
 
-    /// How a share is refused under locks, where the slot isn't missing.
-    fn share_refusal_lock(&self, ask: &Ask, id: Number) -> Option<Reply>
-        ensures refused { (state : BayState) → RefusesShareBy Mode.Lock state self.now ask.now id result }
-        ensures refusal { IsTrue (is_refusal result) }
-        ensures alone { result ≡ None → find (is_same_host ask.now id) self.now.readers ≡ None }
-    {
-        if let Some(holder) = self.note {
-            return Some(Reply::Busy { holder });
-        }
-        match self.readers.of_host(ask, id) {
-            Some(reader) => Some(Reply::Busy {
-                holder: reader.as_note(),
-            }),
-            None => None,
-        }
-    }
-
     /// How a share is refused under stamps, where the slot isn't missing.
-    fn share_refusal_order(&self, id: Number) -> Option<Reply>
-        ensures refused { (state : BayState) (ask : Ask) → RefusesShareBy Mode.Order state self.now ask id result }
+    fn share_refusal_order(&self, opened: &Open, id: Number) -> Option<Reply>
+        ensures refused { (state : BayState) (ask : Ask) → RefusesShareBy Mode.Order state (kept_slot self.now opened.now) ask id result }
         ensures refusal { IsTrue (is_refusal result) }
     {
-        if let Some(holder) = self.note {
+        if let Some(holder) = opened.note {
             if holder.origin.0 < id.0 {
                 return Some(Reply::Busy { holder });
             }
@@ -146,23 +92,23 @@ impl SlotState {
     }
 
     /// How a share is refused.
-    fn share_refusal(&self, state: &BayState, ask: &Ask, id: Number) -> Option<Reply>
-        ensures refused { RefusesShare state.now self.now ask.now id result }
+    fn share_refusal(&self, opened: &Open, state: &BayState, ask: &Ask, id: Number) -> Option<Reply>
+        ensures refused { RefusesShare state.now (kept_slot self.now opened.now) ask.now id result }
         ensures refusal { IsTrue (is_refusal result) }
-        ensures alone { state.now.mode ≡ Mode.Lock → result ≡ None → find (is_same_host ask.now id) self.now.readers ≡ None }
+        ensures alone { state.now.mode ≡ Mode.Lock → result ≡ None → find (is_same_host ask.now id) opened.now.readers ≡ None }
     {
         if let Some(floor) = self.missing_floor(state) {
             return Some(Reply::Missing { floor });
         }
         match state.mode {
-            Mode::Lock => self.share_refusal_lock(ask, id),
-            Mode::Order => self.share_refusal_order(id),
+            Mode::Lock => opened.share_refusal(ask, id),
+            Mode::Order => self.share_refusal_order(opened, id),
         }
     }
 
     /// Whether a claim is late: a plain one under stamps, unless its id is above both numbers of the slot.
     fn is_late(&self, how: How, mode: Mode, id: Number) -> bool
-        ensures { (block : List ℕ) → result ≡ is_late how mode id (with_block self.now block) }
+        ensures { (open_row : Open) (block : List ℕ) → result ≡ is_late how mode id (with_block (kept_slot self.now open_row) block) }
     {
         match how {
             How::Plain => match mode {
@@ -175,14 +121,20 @@ impl SlotState {
     }
 
     /// How a claim, plain or to mend, is refused where the slot may be claimed so.
-    fn claim_refusal_there(&self, state: &BayState, id: Number, how: How) -> Option<Reply>
-        ensures refused { RefusesClaimThere state.now self.now id how result }
+    fn claim_refusal_there(
+        &self,
+        opened: &Open,
+        state: &BayState,
+        id: Number,
+        how: How,
+    ) -> Option<Reply>
+        ensures refused { RefusesClaimThere state.now (kept_slot self.now opened.now) id how result }
         ensures refusal { IsTrue (is_refusal result) }
     {
-        if let Some(holder) = self.note {
+        if let Some(holder) = opened.note {
             return Some(Reply::Busy { holder });
         }
-        if let Some(reader) = self.readers.with_other_id(id) {
+        if let Some(reader) = opened.readers.with_other_id(id) {
             return Some(Reply::Busy {
                 holder: reader.as_note(),
             });
@@ -196,36 +148,36 @@ impl SlotState {
     }
 
     /// How a plain claim is refused.
-    fn claim_refusal(&self, state: &BayState, ask: &Ask, id: Number) -> Option<Reply>
-        ensures refused { RefusesClaim state.now self.now ask.now id How.Plain result }
+    fn claim_refusal(&self, opened: &Open, state: &BayState, ask: &Ask, id: Number) -> Option<Reply>
+        ensures refused { RefusesClaim state.now (kept_slot self.now opened.now) ask.now id How.Plain result }
         ensures refusal { IsTrue (is_refusal result) }
     {
         match self.missing_floor(state) {
             Some(floor) => Some(Reply::Missing { floor }),
-            None => self.claim_refusal_there(state, id, How::Plain),
+            None => self.claim_refusal_there(opened, state, id, How::Plain),
         }
     }
 
     /// How a claim to mend is refused. It takes a blank slot too.
-    fn mend_refusal(&self, state: &BayState, ask: &Ask, id: Number) -> Option<Reply>
-        ensures refused { RefusesClaim state.now self.now ask.now id How.Mend result }
+    fn mend_refusal(&self, opened: &Open, state: &BayState, ask: &Ask, id: Number) -> Option<Reply>
+        ensures refused { RefusesClaim state.now (kept_slot self.now opened.now) ask.now id How.Mend result }
         ensures refusal { IsTrue (is_refusal result) }
     {
         if state.empty {
             return Some(Reply::Missing { floor: state.high });
         }
-        self.claim_refusal_there(state, id, How::Mend)
+        self.claim_refusal_there(opened, state, id, How::Mend)
     }
 
     /// How a seizure is refused.
-    fn seize_refusal(&self, state: &BayState, ask: &Ask) -> Option<Reply>
-        ensures refused { (id : Number) → RefusesSeize state.now self.now ask.now id result }
+    fn seize_refusal(&self, opened: &Open, state: &BayState, ask: &Ask) -> Option<Reply>
+        ensures refused { (id : Number) → RefusesSeize state.now (kept_slot self.now opened.now) ask.now id result }
         ensures refusal { IsTrue (is_refusal result) }
     {
         if state.empty {
             return Some(Reply::Missing { floor: state.high });
         }
-        if let Some(note) = self.note {
+        if let Some(note) = opened.note {
             if !is_old_or_own(ask, state.patience, note.host, note.moment) {
                 return Some(Reply::Young { note });
             }
@@ -235,7 +187,7 @@ impl SlotState {
                 floor: self.write_no,
             });
         }
-        match self.readers.young(ask, state.patience) {
+        match opened.readers.young(ask, state.patience) {
             Some(reader) => Some(Reply::Young {
                 note: reader.as_note(),
             }),
@@ -244,29 +196,16 @@ impl SlotState {
     }
 
     /// How a confirm is refused.
-    fn confirm_refusal(&self, state: &BayState, id: Number) -> Option<Reply>
-        ensures refused { RefusesConfirm state.now self.now id result }
+    fn confirm_refusal(&self, opened: &Open, state: &BayState, id: Number) -> Option<Reply>
+        ensures refused { RefusesConfirm state.now (kept_slot self.now opened.now) id result }
         ensures refusal { IsTrue (is_refusal result) }
     {
-        if self.has_note(id) {
+        if opened.has_note(id) {
             return None;
         }
         match self.missing_floor(state) {
             Some(floor) => Some(Reply::Missing { floor }),
             None => Some(Reply::NoNote { life: state.life }),
-        }
-    }
-
-    /// What a release answers.
-    fn release_reply(&self, state: &BayState, id: Number) -> Reply
-        ensures { (others : List Slot) (block : List ℕ) (n : Option Number) → result ≡ (release_rule (bay_of state.now others) (with_block self.now block) id n).reply }
-    {
-        if self.has_note(id) {
-            return Reply::Done;
-        }
-        match self.readers.with_id(id) {
-            Some(_) => Reply::Done,
-            None => Reply::NoNote { life: state.life },
         }
     }
 
@@ -301,228 +240,240 @@ impl SlotState {
     }
 
     /// What the rule makes of an ask of this slot before the store is asked.
-    pub fn judge(&self, state: &BayState, ask: &Ask) -> Verdict
-        ensures { (others : List Slot) (block : List ℕ) → result ≡ verdict_for ask.now.what (slot_rule (bay_of state.now others) (with_block self.now block) ask.now true ask.now.what).reply }
+    pub fn judge(&self, opened: &Open, state: &BayState, ask: &Ask) -> Verdict
+        ensures { (others : List Slot) (block : List ℕ) → result ≡ verdict_for ask.now.what (slot_rule (bay_of state.now others) (with_block (kept_slot self.now opened.now) block) ask.now true ask.now.what).reply }
     {
         match ask.what {
             Request::Share { id, want, .. } => {
-                let refusal = self.share_refusal(state, ask, id);
+                let refusal = self.share_refusal(opened, state, ask, id);
                 self.verdict(want, refusal, self.granted(state, None, None))
             }
-            Request::Claim { id, how, want, .. } => self.judge_claim(state, ask, id, how, want),
+            Request::Claim { id, how, want, .. } => self.judge_claim(
+                opened, state, ask, id, how, want,
+            ),
             Request::Confirm { id, want, .. } => {
-                let refusal = self.confirm_refusal(state, id);
+                let refusal = self.confirm_refusal(opened, state, id);
                 self.verdict(want, refusal, Reply::Held { cell: None })
             }
             Request::Put { id, .. } => {
-                if self.has_note(id) {
+                if opened.has_note(id) {
                     Verdict::NeedWrite
                 } else {
                     Verdict::Say(Reply::NoNote { life: state.life })
                 }
             }
-            Request::Release { id, .. } => Verdict::Say(self.release_reply(state, id)),
+            Request::Release { id, .. } => Verdict::Say(opened.release_reply(state, id)),
             Request::Lose => Verdict::Say(Reply::Emptied),
             Request::Fit => Verdict::Say(Reply::Fitted),
         }
     }
 
-    fn judge_claim(&self, state: &BayState, ask: &Ask, id: Number, how: How, want: bool) -> Verdict
-        ensures { (row : RowNo) (mask : ℕ) (others : List Slot) (block : List ℕ) → result ≡ verdict_for (Request.Claim row id how mask want) (claim_rule how (bay_of state.now others) (with_block self.now block) ask.now id mask want true).reply }
+    fn judge_claim(
+        &self,
+        opened: &Open,
+        state: &BayState,
+        ask: &Ask,
+        id: Number,
+        how: How,
+        want: bool,
+    ) -> Verdict
+        ensures { (row : RowNo) (mask : ℕ) (others : List Slot) (block : List ℕ) → result ≡ verdict_for (Request.Claim row id how mask want) (claim_rule how (bay_of state.now others) (with_block (kept_slot self.now opened.now) block) ask.now id mask want true).reply }
     {
         match how {
             How::Plain => {
-                let refusal = self.claim_refusal(state, ask, id);
+                let refusal = self.claim_refusal(opened, state, ask, id);
                 self.verdict(want, refusal, self.granted(state, None, None))
             }
             How::Mend => {
-                let refusal = self.mend_refusal(state, ask, id);
+                let refusal = self.mend_refusal(opened, state, ask, id);
                 self.verdict(want, refusal, self.granted(state, None, None))
             }
             How::Seize => {
-                let refusal = self.seize_refusal(state, ask);
-                self.verdict(want, refusal, self.granted(state, None, self.note))
+                let refusal = self.seize_refusal(opened, state, ask);
+                self.verdict(want, refusal, self.granted(state, None, opened.note))
             }
-        }
-    }
-
-    /// Lets the ask's host in as a reader, unless it is one.
-    fn admit(&mut self, ask: &Ask, id: Number)
-        requires host { ask.now.host.0 < 16 }
-        requires alone { find (is_same_host ask.now id) self.old.readers ≡ None }
-        ensures { self.new ≡ record self.old { readers = with_reader ask.now id (find (is_reader id) self.old.readers) self.old.readers } }
-    {
-        if self.readers.with_id(id).is_none() {
-            self.readers.add(Reader {
-                host: ask.host,
-                id,
-                moment: ask.moment,
-            });
         }
     }
 
     /// Serves a share, showing this cell.
-    fn share(&mut self, state: &BayState, ask: &Ask, id: Number, cell: Option<Cell>) -> Reply
+    fn share(
+        &mut self,
+        opened: &mut Open,
+        state: &BayState,
+        ask: &Ask,
+        id: Number,
+        cell: Option<Cell>,
+    ) -> Reply
         requires { ask.now.host.0 < 16 }
-        ensures { (others : List Slot) (block : List ℕ) (want : Bool) → Served (λ fails. share_rule (bay_of state.now others) (with_block self.old block) ask.now id want fails) (with_block self.old block).cell cell result (with_block self.new block) }
+        ensures { (others : List Slot) (block : List ℕ) (want : Bool) → Served (λ fails. share_rule (bay_of state.now others) (with_block (kept_slot self.old opened.old) block) ask.now id want fails) (with_block (kept_slot self.old opened.old) block).cell cell result (with_block (kept_slot self.new opened.new) block) }
     {
-        if let Some(refusal) = self.share_refusal(state, ask, id) {
+        if let Some(refusal) = self.share_refusal(opened, state, ask, id) {
             return refusal;
         }
         let reply = self.granted(state, cell, None);
         match state.mode {
-            Mode::Lock => self.admit(ask, id),
+            Mode::Lock => opened.admit(ask, id),
             Mode::Order => self.read_no = greater(self.read_no, id),
         }
         reply
     }
 
-    /// Opens a note of the ask, with this origin and mask.
-    fn open(&mut self, ask: &Ask, id: Number, origin: Number, mask: u16)
-        ensures { self.new ≡ record self.old { note = Some (record { host = ask.now.host; id = id; origin = origin; mask = mask; moment = ask.now.moment }) } }
-    {
-        self.note = Some(Note {
-            host: ask.host,
-            id,
-            origin,
-            mask,
-            moment: ask.moment,
-        });
-    }
-
     /// Serves a plain claim, showing this cell.
     fn claim(
-        &mut self,
+        &self,
+        opened: &mut Open,
         state: &BayState,
         ask: &Ask,
         id: Number,
         mask: u16,
         cell: Option<Cell>,
     ) -> Reply
-        ensures { (others : List Slot) (block : List ℕ) (want : Bool) → Served (λ fails. claim_rule How.Plain (bay_of state.now others) (with_block self.old block) ask.now id mask want fails) (with_block self.old block).cell cell result (with_block self.new block) }
+        ensures { (others : List Slot) (block : List ℕ) (want : Bool) → Served (λ fails. claim_rule How.Plain (bay_of state.now others) (with_block (kept_slot self.now opened.old) block) ask.now id mask want fails) (with_block (kept_slot self.now opened.old) block).cell cell result (with_block (kept_slot self.now opened.new) block) }
     {
-        if let Some(refusal) = self.claim_refusal(state, ask, id) {
+        if let Some(refusal) = self.claim_refusal(opened, state, ask, id) {
             return refusal;
         }
         let reply = self.granted(state, cell, None);
-        self.open(ask, id, id, mask);
-        self.readers.remove(id);
+        opened.open_note(ask, id, id, mask);
+        opened.readers.remove(id);
         reply
     }
 
     /// Serves a claim to mend, showing this cell.
     fn mend(
-        &mut self,
+        &self,
+        opened: &mut Open,
         state: &BayState,
         ask: &Ask,
         id: Number,
         mask: u16,
         cell: Option<Cell>,
     ) -> Reply
-        ensures { (others : List Slot) (block : List ℕ) (want : Bool) → Served (λ fails. claim_rule How.Mend (bay_of state.now others) (with_block self.old block) ask.now id mask want fails) (with_block self.old block).cell cell result (with_block self.new block) }
+        ensures { (others : List Slot) (block : List ℕ) (want : Bool) → Served (λ fails. claim_rule How.Mend (bay_of state.now others) (with_block (kept_slot self.now opened.old) block) ask.now id mask want fails) (with_block (kept_slot self.now opened.old) block).cell cell result (with_block (kept_slot self.now opened.new) block) }
     {
-        if let Some(refusal) = self.mend_refusal(state, ask, id) {
+        if let Some(refusal) = self.mend_refusal(opened, state, ask, id) {
             return refusal;
         }
         let reply = self.granted(state, cell, None);
-        self.open(ask, id, id, mask);
-        self.readers.remove(id);
+        opened.open_note(ask, id, id, mask);
+        opened.readers.remove(id);
         reply
     }
 
     /// Serves a seizure, showing this cell. The origin and the mask of the seized note are handed on.
     fn seize(
-        &mut self,
+        &self,
+        opened: &mut Open,
         state: &BayState,
         ask: &Ask,
         id: Number,
         mask: u16,
         cell: Option<Cell>,
     ) -> Reply
-        ensures { (others : List Slot) (block : List ℕ) (want : Bool) → Served (λ fails. seize_rule (bay_of state.now others) (with_block self.old block) ask.now id mask want fails) (with_block self.old block).cell cell result (with_block self.new block) }
+        ensures { (others : List Slot) (block : List ℕ) (want : Bool) → Served (λ fails. seize_rule (bay_of state.now others) (with_block (kept_slot self.now opened.old) block) ask.now id mask want fails) (with_block (kept_slot self.now opened.old) block).cell cell result (with_block (kept_slot self.now opened.new) block) }
     {
-        if let Some(refusal) = self.seize_refusal(state, ask) {
+        if let Some(refusal) = self.seize_refusal(opened, state, ask) {
             if refusal.is_missing() && !state.empty {
-                self.note = None;
+                opened.note = None;
             }
             return refusal;
         }
-        let reply = self.granted(state, cell, self.note);
-        match self.note {
-            Some(note) => self.open(ask, id, note.origin, note.mask),
-            None => self.open(ask, id, id, mask),
+        let reply = self.granted(state, cell, opened.note);
+        match opened.note {
+            Some(note) => opened.open_note(ask, id, note.origin, note.mask),
+            None => opened.open_note(ask, id, id, mask),
         }
-        self.readers.clear();
+        opened.readers.clear();
         reply
     }
 
     /// Serves a confirm, showing this cell.
-    fn confirm(&self, state: &BayState, id: Number, cell: Option<Cell>) -> Reply
-        ensures { (others : List Slot) (block : List ℕ) (want : Bool) → Served (λ fails. confirm_rule (bay_of state.now others) (with_block self.now block) id want fails) (with_block self.now block).cell cell result (with_block self.now block) }
+    fn confirm(&self, opened: &Open, state: &BayState, id: Number, cell: Option<Cell>) -> Reply
+        ensures { (others : List Slot) (block : List ℕ) (want : Bool) → Served (λ fails. confirm_rule (bay_of state.now others) (with_block (kept_slot self.now opened.now) block) id want fails) (with_block (kept_slot self.now opened.now) block).cell cell result (with_block (kept_slot self.now opened.now) block) }
     {
-        match self.confirm_refusal(state, id) {
+        match self.confirm_refusal(opened, state, id) {
             Some(refusal) => refusal,
             None => Reply::Held { cell },
         }
     }
 
     /// Serves a put of this cell, whose block was written.
-    fn put(&mut self, state: &BayState, id: Number, number: Number, cell: Cell) -> Reply
-        ensures { (others : List Slot) (block : List ℕ) → (result ≡ (put_rule (bay_of state.now others) (with_block self.old block) id number cell false).reply) × (with_block self.new (if note_id self.old.note id then cell.bytes else block) ≡ (put_rule (bay_of state.now others) (with_block self.old block) id number cell false).slot) }
+    fn put(
+        &mut self,
+        opened: &mut Open,
+        state: &BayState,
+        id: Number,
+        number: Number,
+        cell: Cell,
+    ) -> Reply
+        ensures { (others : List Slot) (block : List ℕ) → (result ≡ (put_rule (bay_of state.now others) (with_block (kept_slot self.old opened.old) block) id number cell false).reply) × (with_block (kept_slot self.new opened.new) (if note_id opened.old.note id then cell.bytes else block) ≡ (put_rule (bay_of state.now others) (with_block (kept_slot self.old opened.old) block) id number cell false).slot) }
     {
-        if !self.has_note(id) {
+        if !opened.has_note(id) {
             return Reply::NoNote { life: state.life };
         }
         self.mark = Some(cell.lost);
         self.write_no = greater(self.write_no, number);
         self.last = id;
-        self.note = None;
+        opened.note = None;
         Reply::Done
     }
 
     /// Serves a release.
-    fn release(&mut self, state: &BayState, id: Number, number: Option<Number>) -> Reply
-        ensures { (others : List Slot) (block : List ℕ) → (result ≡ (release_rule (bay_of state.now others) (with_block self.old block) id number).reply) × (with_block self.new block ≡ (release_rule (bay_of state.now others) (with_block self.old block) id number).slot) }
+    fn release(
+        &mut self,
+        opened: &mut Open,
+        state: &BayState,
+        id: Number,
+        number: Option<Number>,
+    ) -> Reply
+        ensures { (others : List Slot) (block : List ℕ) → (result ≡ (release_rule (bay_of state.now others) (with_block (kept_slot self.old opened.old) block) id number).reply) × (with_block (kept_slot self.new opened.new) block ≡ (release_rule (bay_of state.now others) (with_block (kept_slot self.old opened.old) block) id number).slot) }
     {
-        if self.has_note(id) {
-            self.note = None;
+        if opened.has_note(id) {
+            opened.note = None;
             return Reply::Done;
         }
-        if self.readers.with_id(id).is_none() {
+        if opened.readers.with_id(id).is_none() {
             return Reply::NoNote { life: state.life };
         }
         if let Some(number) = number {
             self.read_no = greater(self.read_no, number);
         }
-        self.readers.remove(id);
+        opened.readers.remove(id);
         Reply::Done
     }
 
     /// Serves an ask of this slot: shows this cell where it was read, or takes it where it was written.
-    pub fn serve(&mut self, state: &BayState, ask: &Ask, cell: Option<Cell>) -> Reply
+    pub fn serve(
+        &mut self,
+        opened: &mut Open,
+        state: &BayState,
+        ask: &Ask,
+        cell: Option<Cell>,
+    ) -> Reply
         requires { ask.now.host.0 < 16 }
-        ensures { ServedSlot state.now ask.now cell self.old result self.new }
+        ensures { ServedSlot state.now ask.now cell (kept_slot self.old opened.old) result (kept_slot self.new opened.new) }
     {
         match ask.what {
-            Request::Share { id, .. } => self.share(state, ask, id, cell),
+            Request::Share { id, .. } => self.share(opened, state, ask, id, cell),
             Request::Claim { id, how, mask, .. } => self.serve_claim(
-                state, ask, id, how, mask, cell,
+                opened, state, ask, id, how, mask, cell,
             ),
-            Request::Confirm { id, .. } => self.confirm(state, id, cell),
+            Request::Confirm { id, .. } => self.confirm(opened, state, id, cell),
             Request::Put {
                 id,
                 number,
                 cell: new,
                 ..
-            } => self.put(state, id, number, new),
-            Request::Release { id, number, .. } => self.release(state, id, number),
+            } => self.put(opened, state, id, number, new),
+            Request::Release { id, number, .. } => self.release(opened, state, id, number),
             Request::Lose => Reply::Emptied,
             Request::Fit => Reply::Fitted,
         }
     }
 
     fn serve_claim(
-        &mut self,
+        &self,
+        opened: &mut Open,
         state: &BayState,
         ask: &Ask,
         id: Number,
@@ -530,12 +481,12 @@ impl SlotState {
         mask: u16,
         cell: Option<Cell>,
     ) -> Reply
-        ensures { (others : List Slot) (block : List ℕ) (want : Bool) → Served (λ fails. claim_rule how (bay_of state.now others) (with_block self.old block) ask.now id mask want fails) (with_block self.old block).cell cell result (with_block self.new block) }
+        ensures { (others : List Slot) (block : List ℕ) (want : Bool) → Served (λ fails. claim_rule how (bay_of state.now others) (with_block (kept_slot self.now opened.old) block) ask.now id mask want fails) (with_block (kept_slot self.now opened.old) block).cell cell result (with_block (kept_slot self.now opened.new) block) }
     {
         match how {
-            How::Plain => self.claim(state, ask, id, mask, cell),
-            How::Mend => self.mend(state, ask, id, mask, cell),
-            How::Seize => self.seize(state, ask, id, mask, cell),
+            How::Plain => self.claim(opened, state, ask, id, mask, cell),
+            How::Mend => self.mend(opened, state, ask, id, mask, cell),
+            How::Seize => self.seize(opened, state, ask, id, mask, cell),
         }
     }
 }

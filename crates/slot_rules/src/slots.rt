@@ -1,9 +1,10 @@
 //! The slots of one bay.
-ghost use Rattle.std.specs.Prelude.{◌≡◌, map};
-ghost use Rattle.slot_rules.specs.Tables.{bare_kept};
+ghost use Rattle.std.specs.Prelude.{◌≡◌, IfOk, replicate};
 ghost use Rattle.slot_rules.specs.Serving.{row_of};
 ghost use Rattle.slot_rules.specs.Parts.{device_reply};
 
+use crate::open_rows::OpenRows;
+use crate::opened::Open;
 use crate::slot::{BayState, SlotState, Verdict, raised};
 use raid_base::{Ask, Cell, Mode, NoMemory, Note, Number, Reply, Request, RowNo};
 use std::alloc::Global;
@@ -34,38 +35,113 @@ fn device_reply(what: Request) -> Reply
     }
 }
 
-/// Makes all blank, with both numbers this one.
-fn strip_all(slots: &mut [SlotState], number: Number)
-    ensures { slots.new ≡ map (λ _. bare_kept number) slots.old }
-{
-    for i in 0..slots.len() {
-        let slot = &mut slots[i];
-        slot.strip(number);
+/// What was last put on a row, and the numbers of its slot since. In another life than that of the put the slot is blank.
+#[derive(Clone, Copy, Debug)]
+pub struct RowState {
+    life: u32,
+    mark: u16,
+    read_no: Number,
+    write_no: Number,
+    last: Number,
+}
+
+impl RowState {
+    ghost use Rattle.std.specs.Prelude.{unwrap_or};
+    ghost use Rattle.slot_rules.specs.Opens.{first_row, slot_in, row_after};
+
+    /// A row at the start: zeros, and nothing lost.
+    fn first() -> RowState
+        ensures { result ≡ first_row }
+    {
+        RowState {
+            life: 0,
+            mark: 0,
+            read_no: Number(0),
+            write_no: Number(0),
+            last: Number(0),
+        }
+    }
+
+    /// So many rows at the start.
+    fn first_rows(alloc: Global, count: u16) -> Result<Vec<RowState>, NoMemory>
+        ensures { IfOk result (λ rows. rows.items ≡ replicate count first_row) }
+    {
+        let mut rows = Vec::with_capacity(alloc, usize::from(count)).map_err(|_| NoMemory)?;
+        for _row in 0..count {
+            rows.push(RowState::first()).map_err(|_| NoMemory)?;
+        }
+        Ok(rows)
+    }
+
+    /// The slot in this life, where both numbers of a blank one are `bare`.
+    fn slot(&self, life: u32, bare: Number) -> SlotState
+        ensures { result ≡ slot_in life bare self.now }
+    {
+        if self.life == life {
+            SlotState {
+                mark: Some(self.mark),
+                read_no: self.read_no,
+                write_no: self.write_no,
+                last: self.last,
+            }
+        } else {
+            SlotState {
+                mark: None,
+                read_no: bare,
+                write_no: bare,
+                last: Number(0),
+            }
+        }
+    }
+
+    /// Keeps a slot of this life, unless it is blank.
+    fn keep(&mut self, life: u32, slot: SlotState)
+        ensures { self.new ≡ row_after life slot.mark slot self.old }
+    {
+        if let Some(mark) = slot.mark {
+            *self = RowState {
+                life,
+                mark,
+                read_no: slot.read_no,
+                write_no: slot.write_no,
+                last: slot.last,
+            };
+        }
     }
 }
 
 /// The slots of one bay, all but their blocks.
-#[derive(Debug, Drop)]
+///
+/// A row's slot is blank exactly where it was last put in another life than the bay's. Both its numbers are then `bare`, so
+/// a device is lost and fitted without a look at the rows on which nothing is open.
+#[derive(Drop)]
 pub struct Slots {
     state: BayState,
-    slots: Vec<SlotState>,
+    bare: Number,
+    rows: Vec<RowState>,
+    open_rows: OpenRows,
 }
 
 impl Model for Slots {
     ghost use Rattle.slot_rules.specs.Tables.{Table};
+    ghost use Rattle.slot_rules.specs.Opens.{slots_kept, Keeping};
 
     ghost Value = { Table };
 
-    ghost view = { λ s. record { state = s.state; slots = s.slots.items } };
+    ghost view = { λ s. record { state = s.state; slots = slots_kept s.state.life s.bare s.rows.items s.open_rows.opens; order = s.open_rows.order } };
+
+    ghost invariant = { λ s. Keeping s.state.life s.state.empty s.rows.items s.open_rows.opens };
 }
 
 impl Slots {
-    ghost use Rattle.std.specs.Prelude.{◌≡◌, ◌≤◌, ◌<◌, ◌-◌, ◌^◌, ℕ, List, IfOk, IfSome, length, replicate, take, true, false, is_none};
+    ghost use Rattle.std.specs.Prelude.{◌≡◌, ◌≤◌, ◌<◌, ◌-◌, ◌^◌, ℕ, List, IfOk, IfSome, length, slice_index_or, slice_get, Some, replicate, take, true, false, is_none};
     ghost use Rattle.raid_base.specs.Cells.{zeros};
     ghost use Rattle.raid_base.specs.Fits.{fits};
     ghost use Rattle.slot_rules.specs.Slots.{first_bay, slot_of};
     ghost use Rattle.slot_rules.specs.Rules.{rule};
-    ghost use Rattle.slot_rules.specs.Tables.{with_blocks, lost_of};
+    ghost use Rattle.slot_rules.specs.Tables.{with_blocks, lost_of, bare_kept};
+    ghost use Rattle.slot_rules.specs.Opens.{ListsOpen, open_part, figures};
+    ghost use Rattle.raid_base.specs.Numbers.{number};
     ghost use Rattle.slot_rules.specs.Serving.{IsAskFor, IsVerdict, verdict_of, served_cell, blocks_after, row_of};
     ghost use Rattle.slot_rules.specs.Parts.{ServedRow, table_lost, table_fitted, device_reply, device_after};
 
@@ -74,10 +150,8 @@ impl Slots {
         ensures first { IfOk result (λ slots. (blocks : List (List ℕ)) → take rows blocks ≡ replicate rows zeros → with_blocks slots blocks ≡ first_bay mode rows patience) }
         ensures rows { IfOk result (λ slots. length slots.slots ≡ rows) }
     {
-        let mut slots = Vec::with_capacity(alloc, usize::from(rows)).map_err(|_| NoMemory)?;
-        for _row in 0..rows {
-            slots.push(SlotState::first()).map_err(|_| NoMemory)?;
-        }
+        let open_rows = OpenRows::make(alloc, rows)?;
+        let rows = RowState::first_rows(alloc, rows)?;
         let state = BayState {
             mode,
             patience,
@@ -85,14 +159,19 @@ impl Slots {
             high: Number(0),
             life: 0,
         };
-        Ok(Slots { state, slots })
+        Ok(Slots {
+            state,
+            bare: Number(0),
+            rows,
+            open_rows,
+        })
     }
 
     /// How many rows there are.
     pub fn rows(&self) -> usize
         ensures { result ≡ length self.now.slots }
     {
-        self.slots.len()
+        self.rows.len()
     }
 
     /// How requests are ordered.
@@ -121,7 +200,7 @@ impl Slots {
         requires { row.0 < length self.now.slots }
         ensures { (blocks : List (List ℕ)) → result ≡ (slot_of (with_blocks self.now blocks) row).note }
     {
-        self.slots[usize::from(row.0)].note
+        self.opened(row).note
     }
 
     /// Whether the slot is missing: it has no cell. A bay without a device has no cells at all.
@@ -129,7 +208,7 @@ impl Slots {
         requires { row.0 < length self.now.slots }
         ensures { (blocks : List (List ℕ)) → result ≡ is_none (slot_of (with_blocks self.now blocks) row).cell }
     {
-        self.slots[usize::from(row.0)].mark.is_none()
+        self.slot(row).mark.is_none()
     }
 
     /// The `lost` of the slot's cell, 0 where the slot is missing.
@@ -137,7 +216,39 @@ impl Slots {
         requires { row.0 < length self.now.slots }
         ensures { (blocks : List (List ℕ)) → result ≡ lost_of (slot_of (with_blocks self.now blocks) row).cell }
     {
-        self.slots[usize::from(row.0)].mark.unwrap_or(0)
+        self.slot(row).mark.unwrap_or(0)
+    }
+
+    /// How many rows have a note or a reader. Each of them is `open_row` of exactly one number below that.
+    pub fn open_rows(&self) -> u16
+        ensures count { result ≡ length self.now.order }
+        ensures listed { ListsOpen self.now.order self.now.slots }
+    {
+        self.open_rows.len()
+    }
+
+    /// One of the rows with a note or a reader.
+    pub fn open_row(&self, k: u16) -> RowNo
+        requires { k < length self.now.order }
+        ensures { slice_get self.now.order k ≡ Some result }
+    {
+        self.open_rows.row(k)
+    }
+
+    /// The mark and the numbers of a row's slot.
+    fn slot(&self, row: RowNo) -> SlotState
+        requires { row.0 < length self.now.slots }
+        ensures { result ≡ figures (slice_index_or self.now.slots row.0 (bare_kept (number 0))) }
+    {
+        self.rows[usize::from(row.0)].slot(self.state.life, self.bare)
+    }
+
+    /// What is open on a row.
+    fn opened(&self, row: RowNo) -> &Open
+        requires { row.0 < length self.now.slots }
+        ensures { result.now ≡ open_part (slice_index_or self.now.slots row.0 (bare_kept (number 0))) }
+    {
+        self.open_rows.at(row.0)
     }
 
     /// What the rule makes of an ask before the store is asked.
@@ -149,10 +260,7 @@ impl Slots {
         ensures shape { IsVerdict ask.now.what result }
     {
         match row_of(ask.what) {
-            Some(row) => {
-                let slot = &self.slots[usize::from(row.0)];
-                slot.judge(&self.state, ask)
-            }
+            Some(row) => self.slot(row).judge(self.opened(row), &self.state, ask),
             None => Verdict::Say(device_reply(ask.what)),
         }
     }
@@ -180,14 +288,15 @@ impl Slots {
         ensures served { ServedRow row ask.now cell self.old result self.new }
         ensures rows { length self.new.slots ≡ length self.old.slots }
     {
-        let state = self.state;
-        let slot = &mut self.slots[usize::from(row.0)];
-        let read_no = slot.read_no;
-        let write_no = slot.write_no;
-        let reply = slot.serve(&state, ask, cell);
-        let high = raised(state.high, read_no, slot.read_no);
-        let high = raised(high, write_no, slot.write_no);
-        self.state.high = high;
+        let place = usize::from(row.0);
+        let before = self.rows[place].slot(self.state.life, self.bare);
+        let mut slot = before;
+        let reply = self
+            .open_rows
+            .serve(row.0, &mut slot, &self.state, ask, cell);
+        self.rows[place].keep(self.state.life, slot);
+        let high = raised(self.state.high, before.read_no, slot.read_no);
+        self.state.high = raised(high, before.write_no, slot.write_no);
         reply
     }
 
@@ -201,7 +310,8 @@ impl Slots {
         }
         self.state.empty = true;
         self.state.life += 1;
-        strip_all(&mut self.slots, Number(0));
+        self.bare = Number(0);
+        self.open_rows.clear();
     }
 
     /// A device is fitted, unless there is one. Its slots are blank, and their numbers are as high as any ever was.
@@ -212,7 +322,7 @@ impl Slots {
             return;
         }
         self.state.empty = false;
-        strip_all(&mut self.slots, self.state.high);
+        self.bare = self.state.high;
     }
 
     /// Serves a request without a row.

@@ -1,6 +1,6 @@
 use Rattle.std.proofs.Common.{◌≡◌, sym, ◌∙◌, None, rules}
 use Rattle.slot_rules.proofs.ReaderLists.{host_absent}
-use Rattle.slot_rules.proofs.slot.SlotState.admit.Goals as goal
+use Rattle.slot_rules.proofs.opened.Open.admit.Goals as goal
 
 pub add-requires-clause-absent : goal.add-requires-clause-absent
 add-requires-clause-absent c =
