@@ -60,12 +60,13 @@ fn clear<D: Store>(store: &mut D, rows: u16) -> Result<(), Failed>
 }
 
 impl<D: Store> Bay<D> {
-    ghost use Rattle.std.specs.Prelude.{is_none};
+    ghost use Rattle.std.specs.Prelude.{is_none, slice_get, Some};
     ghost use Rattle.raid_base.specs.Replies.{is_fault};
     ghost use Rattle.raid_base.specs.Fits.{fits};
     ghost use Rattle.raid_base.specs.declared.numbers.RowNo.{RowNo};
     ghost use Rattle.slot_rules.specs.Slots.{Bay as BayState, first_bay, slot_of};
     ghost use Rattle.slot_rules.specs.Tables.{lost_of};
+    ghost use Rattle.slot_rules.specs.Opens.{ListsOpen};
     ghost use Rattle.slot_rules.specs.Handling.{Handled};
     ghost use Rattle.slot_rules.specs.Replay.{Replays, next_clock};
     ghost use Rattle.bay_device.specs.Handling.{IsAskOfBay, IsHandledSomehow, KeepsOthers, RisesByFaults, cell_of_row};
@@ -170,6 +171,22 @@ impl<D: Store> Bay<D> {
         ensures { (blocks : List (List ℕ)) → result ≡ (slot_of (with_blocks self.now.slots blocks) row).note }
     {
         self.slots.note(row)
+    }
+
+    /// How many rows have a note or a reader. Each of them is `open_row` of exactly one number below that.
+    pub fn open_rows(&self) -> u16
+        ensures count { result ≡ length self.now.slots.order }
+        ensures listed { ListsOpen self.now.slots.order self.now.slots.slots }
+    {
+        self.slots.open_rows()
+    }
+
+    /// One of the rows with a note or a reader.
+    pub fn open_row(&self, k: u16) -> RowNo
+        requires { k < length self.now.slots.order }
+        ensures { slice_get self.now.slots.order k ≡ Some result }
+    {
+        self.slots.open_row(k)
     }
 
     /// The cell of a row, or `None` where it is missing. Changes nothing but the count of the store's faults.
