@@ -8,9 +8,8 @@ use Rattle.raid_base.specs.declared.cells.Cell.{Cell}
 use Rattle.raid_base.specs.declared.messages.Call.{Call}
 use Rattle.raid_base.specs.Counts.{RisesBy}
 use Rattle.stripe_layout.specs.Placement.{bay}
-use Rattle.slot_rules.specs.declared.slot.SlotState.{SlotState}
 use Rattle.slot_rules.specs.Slots.{Slot, Bay as BayState, slot_of}
-use Rattle.slot_rules.specs.Tables.{slots_with, cell_of}
+use Rattle.slot_rules.specs.Tables.{Kept, slots_with, cell_of}
 use Rattle.block_store.specs.declared.store.Store.{Ghosts}
 use Rattle.bay_device.specs.declared.bay.Bay.{Bay}
 use Rattle.bay_device.specs.Handling.{count_faults}
@@ -27,7 +26,7 @@ block-of-cell : (mark : Option ℕ) (block : List ℕ) (cell : Cell) → cell_of
 block-of-cell None block cell e = absurd (cc)
 block-of-cell (Some lost) block cell e = cc
 
-pub block-of : (slots : List SlotState) (blocks : List (List ℕ)) (row : ℕ) (d : Slot) (cell : Cell) → length slots ≤ length blocks → row < length slots →
+pub block-of : (slots : List Kept) (blocks : List (List ℕ)) (row : ℕ) (d : Slot) (cell : Cell) → length slots ≤ length blocks → row < length slots →
     (get_or (slots_with slots blocks) row d).cell ≡ Some cell → slice_get blocks row ≡ Some cell.bytes
 block-of [] blocks row d cell enough inside e = absurd (omega arith)
 block-of (slot ∷ slots) [] row d cell enough inside e = absurd (omega arith)

@@ -2,7 +2,7 @@
 use Rattle.std.proofs.Common.{◌≡◌, ℕ, ◌+◌, ◌-◌, ◌*◌, ◌<◌, ◌≤◌, zero, suc, Bool, true, false, not, ◌||◌, Option, None, is_some, List, [], ◌∷◌, ◌++◌, length, get_or, map, take, refl, sym, ap, subst, ◌∙◌, inl, inr, ◌⊎◌, arith, get_or-set_same, IsTrue, append_assoc}
 use Rattle.std.proofs.Math.ListN.{set, length-set}
 use Rattle.std.proofs.lemmas.List.{map_more, flat_map_more, get_or_append_left, get_or-append-add}
-use Rattle.std.proofs.lemmas.List.FromFn.{map-range_with_len_more, length-map-range_with_len, get_or-map-range_with_len}
+use Rattle.std.proofs.lemmas.List.FromFn.{length-map-range_with_len, get_or-map-range_with_len}
 use Rattle.std.specs.List.{list_any, flat_map, range_with_len}
 use Rattle.raid_base.specs.declared.numbers.BayNo.{BayNo}
 use Rattle.raid_base.specs.declared.numbers.RowNo.{RowNo}
@@ -195,17 +195,6 @@ module _ {D : Type 0} {g : Ghosts D} where
       ∙ ap (λ (xs : List (Option Cell)). xs ++ f k) so_far
       ∙ flat_map_more f before (range_with_len 0 k) k
       ∙ ap (λ (rs : List ℕ). before ++ flat_map f rs) (sym (range_more k))
-
-  -- and whether it is open
-  pub opened-more : (old mid : List (Bay D g)) (k : ℕ) (before opened later : List Bool) (is : Bool) → AreLookedAt old mid → opened ≡ before ++ opened_now k old → is ≡ is_open_now mid (row_no k) →
-      later ≡ opened ++ is ∷ [] → later ≡ before ++ opened_now (k + 1) old
-  opened-more old mid k before opened later is looked so_far here push =
-      let f : ℕ → Bool = λ r. is_open_now old (row_no r) in
-      push
-      ∙ ap (λ (x : Bool). opened ++ x ∷ []) (here ∙ open-kept old mid (row_no k) looked)
-      ∙ ap (λ (xs : List Bool). xs ++ f k ∷ []) so_far
-      ∙ append_assoc before (opened_now k old) (f k ∷ [])
-      ∙ ap (λ (xs : List Bool). before ++ xs) (sym (map-range_with_len_more f 0 k k (omega arith)))
 
 pub one-row : (k n : ℕ) → (k + 1) * n ≡ k * n + n
 one-row k n = omega arith

@@ -1,5 +1,5 @@
 -- The cells and the open rows of an array: those that its bays have now, and those after a history.
-use Rattle.std.specs.Prelude.{◌≡◌, ℕ, ◌<◌, ◌≤◌, Bool, List, length, slice_index_or, map, Option, is_some}
+use Rattle.std.specs.Prelude.{◌≡◌, ℕ, ◌<◌, ◌≤◌, ◌||◌, Bool, false, List, length, slice_index_or, map, Option, is_some}
 use Rattle.std.specs.List.{list_any, flat_map, range_with_len}
 use Rattle.raid_base.specs.declared.numbers.RowNo.{RowNo}
 use Rattle.raid_base.specs.declared.cells.Cell.{Cell}
@@ -45,6 +45,10 @@ cells_now rows bays = flat_map (λ k. row_now bays (row_no k)) (range_with_len 0
 -- which of them are open
 abbrev pub opened_now : {D : Type 0} {g : Ghosts D} → ℕ → List (Bay D g) → List Bool
 opened_now rows bays = map (λ k. is_open_now bays (row_no k)) (range_with_len 0 rows)
+
+-- the same marks, and those at the places that pass the test besides
+abbrev pub IsMarked : List Bool → List Bool → (ℕ → Bool) → Type 0
+IsMarked old new test = (j : ℕ) → j < length old → slice_index_or new j false ≡ (slice_index_or old j false || test j)
 
 -- the cells of a row after a history, bay by bay
 abbrev pub row_after : Script → List Call → RowNo → List (Option Cell)

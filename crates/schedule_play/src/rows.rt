@@ -1,26 +1,62 @@
 //! The cells and the open rows that the bays of a world have.
-ghost use Rattle.std.specs.Prelude.{◌≡◌, ◌<◌, ◌≤◌, ◌+◌, ◌*◌, ◌++◌, List, IfOk, IfErr, length, vec_len};
+ghost use Rattle.std.specs.Prelude.{◌≡◌, ◌<◌, ◌≤◌, ◌+◌, ◌-◌, ◌*◌, ◌++◌, ◌==◌, ◌&&◌, nat_le, false, replicate, List, IfOk, IfErr, length, vec_len};
 ghost use Rattle.std.specs.Vec.{vec_capacity};
 ghost use Rattle.raid_base.specs.declared.messages.Call.{Call};
 ghost use Rattle.script_text.specs.Script.{Script};
 ghost use Rattle.schedule_play.specs.World.{EachAt, BayShows, AllTell};
-ghost use Rattle.schedule_play.specs.Rows.{HaveRows, is_open_now, row_now, cells_now, opened_now, cells_after, opened_after, AreLookedAt, HasFailed, ShowRows};
+ghost use Rattle.schedule_play.specs.Rows.{HaveRows, IsMarked, row_no, has_note, row_now, cells_now, opened_now, cells_after, opened_after, AreLookedAt, HasFailed, ShowRows};
 
 use bay_device::Bay;
 use block_store::Store;
 use raid_base::{BayNo, Cell, RowNo};
 
-/// Whether some slot of the row has an open note.
-fn is_open<D: Store>(bays: &[Bay<D>], row: RowNo) -> bool
-    requires rows { HaveRows (row.0 + 1) bays.now }
-    ensures { result ≡ is_open_now bays.now row }
+/// Appends so many rows that aren't open.
+fn push_closed(rows: u16, opened: &mut Vec<bool>)
+    requires { vec_len opened.old + rows ≤ vec_capacity opened.old }
+    ensures items { opened.new.items ≡ opened.old.items ++ replicate rows false }
+    ensures capacity { vec_capacity opened.new ≡ vec_capacity opened.old }
 {
-    for at in 0..bays.len() {
-        if bays[at].note(row).is_some() {
-            return true;
-        }
+    for _row in 0..rows {
+        opened.push_reserved(false);
     }
-    false
+}
+
+/// Marks the row at this place as open, if it is there and has a note.
+fn mark_row(opened: &mut Vec<bool>, place: usize, noted: bool)
+    ensures len { vec_len opened.new ≡ vec_len opened.old }
+    ensures capacity { vec_capacity opened.new ≡ vec_capacity opened.old }
+    ensures marked { IsMarked opened.old.items opened.new.items (λ j. noted && (j == place)) }
+{
+    if noted && place < opened.len() {
+        opened[place] = true;
+    }
+}
+
+/// Marks the rows on which a bay has an open note. They stand from `first` on.
+fn mark_noted<D: Store>(bay: &Bay<D>, first: usize, opened: &mut Vec<bool>)
+    requires { first ≤ vec_len opened.old }
+    ensures len { vec_len opened.new ≡ vec_len opened.old }
+    ensures capacity { vec_capacity opened.new ≡ vec_capacity opened.old }
+    ensures marked { IsMarked opened.old.items opened.new.items (λ j. nat_le first j && has_note (row_no (j - first)) bay.now) }
+{
+    for k in 0..bay.open_rows() {
+        let row = bay.open_row(k);
+        let noted = bay.note(row).is_some();
+        mark_row(opened, first + usize::from(row.0), noted);
+    }
+}
+
+/// Appends for each of the first rows whether it is open. Only rows that are open on some bay are looked at.
+fn read_open<D: Store>(bays: &[Bay<D>], rows: u16, opened: &mut Vec<bool>)
+    requires { vec_len opened.old + rows ≤ vec_capacity opened.old }
+    ensures opened { opened.new.items ≡ opened.old.items ++ opened_now rows bays.now }
+    ensures capacity { vec_capacity opened.new ≡ vec_capacity opened.old }
+{
+    let first = opened.len();
+    push_closed(rows, opened);
+    for at in 0..bays.len() {
+        mark_noted(&bays[at], first, opened);
+    }
 }
 
 /// Appends the cells of a row, bay by bay. A store that fails ends the reading, and its bay is named.
@@ -70,10 +106,9 @@ pub fn read_rows<D: Store>(
     ensures capacities { (vec_capacity cells.new ≡ vec_capacity cells.old) × (vec_capacity opened.new ≡ vec_capacity opened.old) }
     ensures failed { IfErr result (λ bay. HasFailed bay.0 bays.old bays.new) }
 {
+    read_open(bays, rows, opened);
     for row in 0..rows {
-        let row = RowNo(row);
-        opened.push_reserved(is_open(bays, row));
-        match read_row(bays, row, cells) {
+        match read_row(bays, RowNo(row), cells) {
             Ok(()) => {}
             Err(bay) => return Err(bay),
         }
