@@ -6,4 +6,6 @@ mod bays;
 #[cfg(test)]
 mod exchanges;
 #[cfg(test)]
+mod open_rows;
+#[cfg(test)]
 mod slots;
