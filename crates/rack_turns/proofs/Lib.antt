@@ -1,0 +1,11 @@
+pub mod Counts
+pub mod Entries
+pub mod Views
+pub mod Begins
+pub mod Ends
+pub mod Serving
+pub mod Passing
+pub mod Starts
+pub mod Gives
+pub mod Joins
+pub mod Closes

@@ -1,0 +1,6 @@
+pub mod Views
+pub mod Shadows
+pub mod Ruling
+pub mod Plays
+pub mod Passes
+pub mod Closing
