@@ -1,6 +1,7 @@
 -- The step with which a turn begins keeps the rule.
 use Rattle.std.proofs.Common.{◌≡◌, ◌≢◌, ℕ, suc, ◌+◌, ◌-◌, ◌<◌, ◌≤◌, eqb, List, [], ◌∷◌, ◌++◌, length, set, refl, sym, ap, ◌∙◌, subst, ⊎_elim, inl, inr, arith, Option, Some, get_or-set_other, get_or-set_same, length-set, eq-eqb, ne_eqb}
 use Rattle.std.specs.Prelude.{slice_index}
+use Rattle.std.proofs.lemmas.List.Elements.{All-push}
 use mathlib.Core.Option.{none, some, some-injective, some-ne-none}
 use mathlib.Core.Option as maybe
 use mathlib.Core.Logic.{dite}
@@ -16,12 +17,12 @@ use Rattle.rack_turns.specs.declared.view.Role.{Role}
 use Rattle.rack_turns.specs.declared.view.Shadow.{Shadow}
 use Rattle.rack_turns.specs.declared.view.View.{View}
 use Rattle.rack_turns.specs.Views.{total, held, share_of, share_by, cap_of, greatest_clock, meeting, with_meeting}
-use Rattle.rack_turns.specs.Ruling.{AtHome, IsOut, GuestKnows, Racked}
+use Rattle.rack_turns.specs.Ruling.{AtHome, IsOut, GuestKnows, WasThere, Racked}
 use Rattle.rack_turns.specs.Plays.{began}
 use Rattle.rack_turns.specs.Passes.{IsReady}
 use Rattle.rack_turns.proofs.Counts.{total-at, there, inside, lengths-below}
 use Rattle.rack_turns.proofs.Entries.{same-bay, same-journal}
-use Rattle.rack_turns.proofs.Views.{guest-at, one-guest, not-out-with, moved}
+use Rattle.rack_turns.proofs.Views.{guest-at, one-guest, not-out-with, still-met, moved}
 
 module _ {S : Type 0} (now : S → Shadow) (openings : List Shadow) where
   abbrev Rule : State S View → Type 0
@@ -48,6 +49,10 @@ module _ {S : Type 0} (now : S → Shadow) (openings : List Shadow) where
       let homes' : List (maybe.Option S) = set s.homes k none in
       let now-word : slice_index words' k ≡ host + 1 = get_or-set_same s.words k (host + 1) 0 wide in
       let mine : host + 1 ≡ suc v.standing.host.0 = (let e : v.standing.host.0 ≡ host = ready.host_is in omega (arith, e)) in
+      let kept : (bay h : ℕ) → slice_index s.words bay ≡ suc h → slice_index words' bay ≡ suc h =
+      (λ bay h has. dite (ℕ_discrete bay k)
+      (λ (same : bay ≡ k). absurd (let z : slice_index s.words bay ≡ 0 = ap (λ (n : ℕ). slice_index s.words n) same ∙ free in omega (arith, z, has)))
+      (λ (other : bay ≢ k). get_or-set_other s.words k bay (host + 1) 0 other ∙ has)) in
       let room : (o : Shadow) → get_elem? openings k ≡ some o → length journal + slice_index v.standing.left k ≤ o.cap =
       (λ o at-o.
       let all : length journal + total (share_of k) s.views ≤ o.cap = r.each_room k journal o here at-o in
@@ -93,9 +98,8 @@ module _ {S : Type 0} (now : S → Shadow) (openings : List Shadow) where
               ap (λ (n : ℕ). slice_index words' n) (sym is-bay) ∙ (now-word ∙ mine),
               ap (λ (n : ℕ). get_elem? r.journals n) (sym is-bay) ∙ (here ∙ ap (λ (l : List Entry). some l) (sym home.keeps ∙ is-journal)),
             ))
-            (λ bay h has. dite (ℕ_discrete bay k)
-            (λ (same : bay ≡ k). absurd (let z : slice_index s.words bay ≡ 0 = ap (λ (n : ℕ). slice_index s.words n) same ∙ free in omega (arith, z, has)))
-            (λ (other : bay ≢ k). get_or-set_other s.words k bay (host + 1) 0 other ∙ has))),
+            kept
+            (still-met now openings s r words' v.meetings kept (r.each_meeting id v at))),
         (
           (λ _. record {
             value = home.value;
@@ -143,7 +147,8 @@ module _ {S : Type 0} (now : S → Shadow) (openings : List Shadow) where
             })
             (r.each_bay bay j there-j))
             known.turn
-            (λ bay h has. has))),
+            (λ bay h has. has)
+            (All-push (WasThere s.words r.lists) v.meetings (meeting k (word - 1)) (r.each_meeting id v at) (inl (let a : word ≡ suc out.view.standing.host.0 = out.taken in omega (arith, a)))))),
         (
           (λ free. absurd (busy free)),
           (λ _. record {

@@ -1,19 +1,20 @@
 -- The bays of a rack whose passes are all back.
 use Rattle.std.proofs.Common.{◌≡◌, ◌≢◌, ◌⊎◌, ℕ, zero, suc, ◌+◌, ◌<◌, ◌≤◌, List, [], ◌∷◌, ◌++◌, length, map, take, refl, sym, ap, ◌∙◌, subst, ⊎_elim, arith, Option, Some, None}
-use Rattle.std.specs.Prelude.{slice_index_or}
+use Rattle.std.specs.Prelude.{slice_index, slice_index_or}
 use mathlib.Core.Option.{some, some-injective, some-ne-none}
 use lib.ListN.{get_elem?, length-map}
 use Rattle.atomic_table.specs.Table.{State}
 use Rattle.atomic_table.proofs.Lists.{at_map}
 use Rattle.raid_base.specs.declared.messages.Call.{Call}
 use Rattle.raid_base.specs.declared.messages.Entry.{Entry}
+use Rattle.rack_turns.specs.declared.view.Meeting.{Meeting}
 use Rattle.rack_turns.specs.declared.view.Role.{Role}
 use Rattle.rack_turns.specs.declared.view.Role.TheVariants.{First, Guest}
 use Rattle.rack_turns.specs.declared.view.Shadow.{Shadow}
 use Rattle.rack_turns.specs.declared.view.View.{View}
 use Rattle.rack_turns.specs.Views.{total, out_of, out_by, entries_of, calls_at}
 use Rattle.rack_turns.specs.Ruling.{AtHome, IsOut, FirstKnows, Racked}
-use Rattle.rack_turns.specs.Closing.{IsClosedBay, AreClosed}
+use Rattle.rack_turns.specs.Closing.{IsClosedBay, AreClosed, WereThere}
 use Rattle.rack_turns.proofs.Counts.{total-at, there, inside}
 use Rattle.rack_turns.proofs.Views.{first-at}
 
@@ -61,3 +62,23 @@ module _ {S : Type 0} (now : S → Shadow) (openings : List Shadow) (s : State S
         (λ (o : IsOut s.words s.views bay j.0). absurd (no-guest o.seat o.view o.at o.guest))
         (r.each_bay bay j.0 j.1);
   }
+
+  pub were-there : (bays : List S) → length s.homes ≡ length bays → ((k : ℕ) (y : S) → get_elem? s.homes k ≡ some (some y) → get_elem? bays k ≡ some y) → WereThere v.meetings (map now bays)
+  were-there bays long same i d within bay at-b =
+      let m : Meeting = slice_index_or v.meetings i d in
+      let k : ℕ = m.bay.0 in
+      let all : AreClosed openings v.ended (map now bays) = closes bays long same in
+      let near : k < length openings = (let a : k < length (map now bays) = inside (map now bays) k bay at-b in let b : length (map now bays) ≡ length openings = all.many in omega (arith, a, b)) in
+      let o = there openings k near in
+      let j = there r.journals k (let b : length r.journals ≡ length openings = r.many in omega (arith, near, b)) in
+      let is : IsClosedBay o.0 v.ended k bay = all.each k o.0 bay o.1 at-b in
+      let calls : entries_of m.holder.0 bay.journal ≡ calls_at k (r.lists m.holder.0) = is.entries m.holder.0 ∙ ap (λ (l : List Call). calls_at k l) (sym (known.back m.holder.0 (no-seat m.holder.0))) in
+      ⊎_elim
+      (λ (word : slice_index s.words k ≡ suc m.holder.0). ⊎_elim
+      (λ (h : AtHome now openings s.words s.homes k j.0). absurd (let free : slice_index s.words k ≡ 0 = h.free in omega (arith, free, word)))
+      (λ (h : IsOut s.words s.views k j.0). absurd (no-guest h.seat h.view h.at h.guest))
+      (r.each_bay k j.0 j.1))
+      (λ (asked : 1 ≤ length (calls_at k (r.lists m.holder.0))).
+      let e : length (entries_of m.holder.0 bay.journal) ≡ length (calls_at k (r.lists m.holder.0)) = ap (λ (l : List Entry). length l) calls in
+      omega (arith, asked, e))
+      (r.each_meeting id v at i d within)

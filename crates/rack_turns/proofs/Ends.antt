@@ -1,6 +1,7 @@
 -- The step with which a turn ends keeps the rule.
 use Rattle.std.proofs.Common.{◌≡◌, ◌≢◌, ◌⊎◌, ℕ, zero, suc, ◌+◌, ◌-◌, ◌<◌, ◌≤◌, max, List, [], ◌∷◌, ◌++◌, length, get_or, set, refl, sym, ap, ◌∙◌, subst, ⊎_elim, inl, inr, arith, Some, None, get_or-set_other, get_or-set_same, length-set, length-append}
-use Rattle.std.specs.Prelude.{slice_index}
+use Rattle.std.specs.Prelude.{All, slice_index}
+use Rattle.std.proofs.lemmas.List.Elements.{All-weaker}
 use mathlib.Core.Option.{none, some, some-injective}
 use mathlib.Core.Option as maybe
 use mathlib.Core.Logic.{dite}
@@ -10,13 +11,14 @@ use Rattle.atomic_table.specs.Table.{State, Me, step, gives, stepped, Allows, re
 use Rattle.atomic_table.proofs.Lists.{at_set, set_here, set_else}
 use Rattle.raid_base.specs.declared.messages.Call.{Call}
 use Rattle.raid_base.specs.declared.messages.Entry.{Entry}
+use Rattle.rack_turns.specs.declared.view.Meeting.{Meeting}
 use Rattle.rack_turns.specs.declared.view.Role.{Role}
 use Rattle.rack_turns.specs.declared.view.Shadow.{Shadow}
 use Rattle.rack_turns.specs.declared.view.Standing.{Standing}
 use Rattle.rack_turns.specs.declared.view.View.{View}
 use Rattle.rack_turns.specs.Views.{total, held, share_of, share_by, out_of, cap_of, entries_of, calls_at, call_of, greatest_clock, last_clock, with_call}
 use Rattle.rack_turns.specs.Shadows.{IsLater}
-use Rattle.rack_turns.specs.Ruling.{AtHome, IsOut, GuestKnows, FirstKnows, KnowsBy, Racked}
+use Rattle.rack_turns.specs.Ruling.{AtHome, IsOut, GuestKnows, FirstKnows, KnowsBy, WasThere, Racked}
 use Rattle.rack_turns.specs.Plays.{HasEnded, ended}
 use Rattle.rack_turns.specs.Passes.{MayEnd}
 use Rattle.rack_turns.proofs.Counts.{total-set, total-same, inside, put, put-here, put-else}
@@ -210,6 +212,44 @@ module _ {S : Type 0} (now : S → Shadow) (openings : List Shadow) (s : State S
       })
       (r.each_view seat u there-u)
 
+  one-call : 1 ≤ length (calls_at k (lists' host))
+  one-call =
+      let a : calls_at k (lists' host) ≡ calls_at k me.0.asked ++ may.entry ∷ [] = ap (λ (l : List Call). calls_at k l) (put-here r.lists host calls') ∙ calls-own k me.0.asked may.entry in
+      let b : length (calls_at k (lists' host)) ≡ length (calls_at k me.0.asked) + 1 = ap (λ (l : List Entry). length l) a ∙ length-append (calls_at k me.0.asked) (may.entry ∷ []) in
+      omega (arith, b)
+
+  -- no calls are lost
+  grows : (bay : ℕ) → length (calls_at bay (r.lists host)) ≤ length (calls_at bay (lists' host))
+  grows bay =
+      let was : length (calls_at bay (r.lists host)) ≡ length (calls_at bay me.0.asked) = ap (λ (l : List Call). length (calls_at bay l)) known.asked in
+      let is : length (calls_at bay (lists' host)) ≡ length (calls_at bay calls') = ap (λ (l : List Call). length (calls_at bay l)) (put-here r.lists host calls') in
+      dite (ℕ_discrete bay k)
+      (λ (same : bay ≡ k).
+      let more : length (calls_at k calls') ≡ length (calls_at k me.0.asked) + 1 = ap (λ (l : List Entry). length l) (calls-own k me.0.asked may.entry) ∙ length-append (calls_at k me.0.asked) (may.entry ∷ []) in
+      let a : length (calls_at bay calls') ≡ length (calls_at k calls') = ap (λ (n : ℕ). length (calls_at n calls')) same in
+      let b : length (calls_at bay me.0.asked) ≡ length (calls_at k me.0.asked) = ap (λ (n : ℕ). length (calls_at n me.0.asked)) same in
+      omega (arith, was, is, more, a, b))
+      (λ (other : bay ≢ k).
+      let a : length (calls_at bay calls') ≡ length (calls_at bay me.0.asked) = ap (λ (l : List Entry). length l) (calls-other k bay me.0.asked may.entry (λ e. other (sym e))) in
+      omega (arith, was, is, a))
+
+  -- who was met there in this turn has asked there by now
+  met-still : (m : Meeting) → WasThere s.words r.lists m → WasThere words' lists' m
+  met-still m = ⊎_elim
+      (λ (e : slice_index s.words m.bay.0 ≡ suc m.holder.0). dite (ℕ_discrete m.bay.0 k)
+      (λ (same : m.bay.0 ≡ k).
+      let a : slice_index s.words m.bay.0 ≡ suc host = ap (λ (n : ℕ). slice_index s.words n) same ∙ mine.0 in
+      let is : m.holder.0 ≡ host = (omega (arith, a, e)) in
+      inr (subst (λ (z : ℕ × ℕ). 1 ≤ length (calls_at z.0 (lists' z.1))) (λ i. (sym same i, sym is i)) one-call))
+      (λ (other : m.bay.0 ≢ k). inl (get_or-set_other s.words k m.bay.0 0 0 other ∙ e)))
+      (λ (e : 1 ≤ length (calls_at m.bay.0 (r.lists m.holder.0))). dite (ℕ_discrete m.holder.0 host)
+      (λ (same : m.holder.0 ≡ host). inr (
+      let a : length (calls_at m.bay.0 (r.lists m.holder.0)) ≡ length (calls_at m.bay.0 (r.lists host)) = ap (λ (n : ℕ). length (calls_at m.bay.0 (r.lists n))) same in
+      let b : length (calls_at m.bay.0 (lists' m.holder.0)) ≡ length (calls_at m.bay.0 (lists' host)) = ap (λ (n : ℕ). length (calls_at m.bay.0 (lists' n))) same in
+      let more : length (calls_at m.bay.0 (r.lists host)) ≤ length (calls_at m.bay.0 (lists' host)) = grows m.bay.0 in
+      omega (arith, e, a, b, more)))
+      (λ (other : m.holder.0 ≢ host). inr (subst (λ (l : List Call). 1 ≤ length (calls_at m.bay.0 l)) (sym (put-else r.lists host calls' m.holder.0 other)) e)))
+
   given-back : Racked now openings (record { words = words'; homes = homes'; views = views' })
   given-back = record {
     journals = journals';
@@ -246,6 +286,10 @@ module _ {S : Type 0} (now : S → Shadow) (openings : List Shadow) (s : State S
         let is : v ≡ t.0 = some-injective v t.0 (sym at ∙ (ap (λ (n : ℕ). get_elem? s.views n) (sym same) ∙ t.1)) in
         (w, ap (λ (n : ℕ). get_elem? views' n) same ∙ set_here s.views id w (inside s.views id v at), may.guest, ap (λ (x : View). x.standing.host.0) is ∙ t.3))
         (λ (other : seat ≢ id). (t.0, set_else s.views id seat w other ∙ t.1, t.2, t.3));
+    each_meeting = λ seat u there-u. ⊎_elim
+        (λ (t : (seat ≡ id) × (w ≡ u)). subst (λ (x : View). All (WasThere words' lists') x.meetings) t.1 (All-weaker (WasThere s.words r.lists) (WasThere words' lists') met-still v.meetings (r.each_meeting id v at)))
+        (λ (t : (seat ≢ id) × (get_elem? s.views seat ≡ some u)). All-weaker (WasThere s.words r.lists) (WasThere words' lists') met-still u.meetings (r.each_meeting seat u t.1))
+        (at_set s.views id seat w u there-u);
   }
 
   tells : HasEnded now k me (w, rest me.1)

@@ -1,6 +1,7 @@
 -- The step with which a pass is given keeps the rule.
 use Rattle.std.proofs.Common.{◌≡◌, ◌≢◌, ◌⊎◌, ℕ, zero, suc, ◌+◌, ◌-◌, ◌<◌, ◌≤◌, true, false, List, [], ◌∷◌, ◌++◌, length, set, replicate, refl, sym, ap, ◌∙◌, subst, ⊎_elim, inl, inr, arith, Option, Some, None, get_or-set_other, get_or-set_same, length-set}
-use Rattle.std.specs.Prelude.{slice_index, slice_index_or}
+use Rattle.std.specs.Prelude.{All, slice_index, slice_index_or}
+use Rattle.std.proofs.lemmas.List.Elements.{All-nil}
 use mathlib.Core.Option.{some, some-injective, some-ne-none}
 use mathlib.Core.Logic.{dite}
 use native.Mathlib.Decide.{ℕ_discrete}
@@ -15,7 +16,7 @@ use Rattle.rack_turns.specs.declared.view.Shadow.{Shadow}
 use Rattle.rack_turns.specs.declared.view.Standing.{Standing}
 use Rattle.rack_turns.specs.declared.view.View.{View}
 use Rattle.rack_turns.specs.Views.{total, held, share_of, share_by, out_of, greatest_clock, giving, new_guest}
-use Rattle.rack_turns.specs.Ruling.{AtHome, IsOut, GuestKnows, FirstKnows, KnowsBy, Racked}
+use Rattle.rack_turns.specs.Ruling.{AtHome, IsOut, GuestKnows, FirstKnows, KnowsBy, WasThere, Racked}
 use Rattle.rack_turns.specs.Passes.{MayGive}
 use Rattle.rack_turns.proofs.Counts.{total-set, total-same, total-snoc, inside, put, put-here, put-at, put-else}
 use Rattle.rack_turns.proofs.Entries.{same-seat}
@@ -164,6 +165,13 @@ module _ {S : Type 0} (now : S → Shadow) (openings : List Shadow) (id host quo
         (λ (other : h ≢ host).
         let t = r.each_host h seat (sym (put-else r.seats host (Some (length s.views)) h other) ∙ has) in
         (t.0, stays seat t.0 t.1 (differ seat t.0 t.1 t.2), t.2, t.3));
+    each_meeting = λ seat u there-u. ⊎_elim
+        (λ (inner : get_elem? views₁ seat ≡ some u). ⊎_elim
+        (λ (t : (seat ≡ id) × (left ≡ u)). subst (λ (x : View). All (WasThere s.words r.lists) x.meetings) t.1 (r.each_meeting id v at))
+        (λ (t : (seat ≢ id) × (get_elem? s.views seat ≡ some u)). r.each_meeting seat u t.1)
+        (at_set s.views id seat left u inner))
+        (λ (t : (seat ≡ length views₁) × (right ≡ u)). subst (λ (x : View). All (WasThere s.words r.lists) x.meetings) t.1 (All-nil (WasThere s.words r.lists)))
+        (at-end views₁ right u seat there-u);
   }
 
 -- a pass may be given

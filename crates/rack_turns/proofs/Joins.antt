@@ -1,6 +1,7 @@
 -- The step with which a pass is taken back keeps the rule.
 use Rattle.std.proofs.Common.{◌≡◌, ◌≢◌, ◌⊎◌, ℕ, zero, suc, ◌+◌, ◌-◌, ◌<◌, ◌≤◌, true, false, List, [], ◌∷◌, ◌++◌, length, set, refl, sym, ap, ◌∙◌, subst, ⊎_elim, inl, inr, arith, Option, Some, None, get_or-set_other, get_or-set_same, length-set}
-use Rattle.std.specs.Prelude.{slice_index, slice_index_or}
+use Rattle.std.specs.Prelude.{All, slice_index, slice_index_or}
+use Rattle.std.proofs.lemmas.List.Elements.{All-nil, All-append}
 use mathlib.Core.Option.{some, some-injective}
 use mathlib.Core.Logic.{dite}
 use native.Mathlib.Decide.{ℕ_discrete}
@@ -15,7 +16,7 @@ use Rattle.rack_turns.specs.declared.view.Shadow.{Shadow}
 use Rattle.rack_turns.specs.declared.view.Standing.{Standing}
 use Rattle.rack_turns.specs.declared.view.View.{View}
 use Rattle.rack_turns.specs.Views.{total, held, share_of, share_by, out_of, out_by, gone, joined}
-use Rattle.rack_turns.specs.Ruling.{AtHome, IsOut, GuestKnows, FirstKnows, KnowsBy, Racked}
+use Rattle.rack_turns.specs.Ruling.{AtHome, IsOut, GuestKnows, FirstKnows, KnowsBy, WasThere, Racked}
 use Rattle.rack_turns.proofs.Counts.{total-set, total-at, inside, put, put-here, put-at, put-else}
 use Rattle.rack_turns.proofs.Views.{knows-moves, first-at, guest-at, one-guest, not-out-with}
 
@@ -153,6 +154,14 @@ module _ {S : Type 0} (now : S → Shadow) (openings : List Shadow) (id other : 
         let is : w ≡ t.0 = some-injective w t.0 (sym at-other ∙ (ap (λ (n : ℕ). get_elem? s.views n) (sym same) ∙ t.1)) in
         not (sym (ap (λ (x : View). x.standing.host.0) is ∙ t.3))) in
         (t.0, stays seat t.0 t.1 (differ seat t.0 t.1 t.2) not-other, t.2, t.3);
+    each_meeting = λ seat u there-u. ⊎_elim
+        (λ (t : (seat ≡ other) × (gone ≡ u)). subst (λ (x : View). All (WasThere s.words r.lists) x.meetings) t.1 (All-nil (WasThere s.words r.lists)))
+        (λ (t : (seat ≢ other) × (get_elem? views₁ seat ≡ some u)). ⊎_elim
+        (λ (q : (seat ≡ id) × (both ≡ u)). subst (λ (x : View). All (WasThere s.words r.lists) x.meetings) q.1
+        (All-append (WasThere s.words r.lists) v.meetings w.meetings (r.each_meeting id v at) (r.each_meeting other w at-other)))
+        (λ (q : (seat ≢ id) × (get_elem? s.views seat ≡ some u)). r.each_meeting seat u q.1)
+        (at_set s.views id seat both u t.1))
+        (at_set views₁ other seat gone u there-u);
   }
 
 -- a pass may be taken back

@@ -1,17 +1,31 @@
 -- A bay in hand answers, and what that makes of a turn.
-use Rattle.std.proofs.Common.{◌≡◌, ℕ, ◌+◌, ◌<◌, ◌≤◌, max, List, [], get_or, sym, ap, ◌∙◌, subst, arith, Some}
+use Rattle.std.proofs.Common.{◌≡◌, ℕ, ◌+◌, ◌<◌, ◌≤◌, max, List, [], ◌∷◌, ◌++◌, get_or, refl, sym, ap, ◌∙◌, subst, arith, Some}
 use Rattle.std.specs.Prelude.{slice_index}
 use mathlib.Core.Option.{some}
 use lib.ListN.{get_elem?}
 use Rattle.atomic_table.specs.Table.{Me}
 use Rattle.raid_base.specs.declared.messages.Answer.{Answer}
 use Rattle.raid_base.specs.declared.messages.Ask.{Ask}
+use Rattle.raid_base.specs.declared.messages.Entry.{Entry}
+use Rattle.slot_rules.specs.Replay.{next_clock}
+use Rattle.slot_rules.specs.Tables.{Table}
+use Rattle.bay_device.specs.Handling.{IsHandledSomehow}
 use Rattle.rack_turns.specs.declared.view.Shadow.{Shadow}
 use Rattle.rack_turns.specs.declared.view.View.{View}
 use Rattle.rack_turns.specs.Views.{held, last_clock, greatest_clock}
-use Rattle.rack_turns.specs.Shadows.{IsLater}
+use Rattle.rack_turns.specs.Shadows.{ReplaysSomehow, IsLater}
 use Rattle.rack_turns.specs.Plays.{HasBegun}
 use Rattle.rack_turns.specs.Passes.{IsReady, HoldsBay, HasServed, MayEnd, entry_by}
+
+-- a run by the slot rule over blocks that aren't told, and one step more
+pub somehow-snoc : (a b c : Table) (start clock : ℕ) (es : List Entry) (e : Entry) → ReplaysSomehow a start es b clock → IsHandledSomehow e.ask e.reply b c → e.clock ≡ next_clock clock e.ask → ReplaysSomehow a start (es ++ e ∷ []) c e.clock
+somehow-snoc a b c start clock [] e run step ticks = (
+  c,
+  subst (λ (x : Table). IsHandledSomehow e.ask e.reply x c) (sym run.0) step,
+  ticks ∙ ap (λ (n : ℕ). next_clock n e.ask) (sym run.1),
+  (refl, refl),
+)
+somehow-snoc a b c start clock (x ∷ es) e run step ticks = (run.0, run.1, run.2, somehow-snoc run.0 b c x.clock clock es e run.3 step ticks)
 
 module _ {S : Type 0} (now : S → Shadow) (bay : ℕ) where
   -- after a turn began and the bay answered it may end

@@ -1,6 +1,7 @@
 -- The rule holds of bays that were asked nothing yet.
 use Rattle.std.proofs.Common.{◌≡◌, ◌≢◌, ◌⊎◌, ℕ, zero, suc, ◌+◌, ◌-◌, ◌^◌, ◌<◌, ◌≤◌, min, false, IsTrue, List, [], ◌∷◌, length, map, replicate, take, refl, sym, ap, ◌∙◌, subst, inl, inr, arith, Option, Some, None}
-use Rattle.std.specs.Prelude.{slice_index, slice_index_or}
+use Rattle.std.specs.Prelude.{All, slice_index, slice_index_or}
+use Rattle.std.proofs.lemmas.List.Elements.{All-nil}
 use mathlib.Core.Option.{none, some, some-injective, some-ne-none}
 use mathlib.Core.Option as maybe
 use lib.ListN.{get_elem?, length-map}
@@ -15,8 +16,8 @@ use Rattle.rack_turns.specs.declared.view.Role.TheVariants.{First, Guest, Gone}
 use Rattle.rack_turns.specs.declared.view.Shadow.{Shadow}
 use Rattle.rack_turns.specs.declared.view.View.{View}
 use Rattle.rack_turns.specs.Views.{total, share_of, out_of, least_cap, first_view, last_clock, entries_of, calls_at}
-use Rattle.rack_turns.specs.Shadows.{IsLater}
-use Rattle.rack_turns.specs.Ruling.{AtHome, IsOut, FirstKnows, KnowsBy, Racked}
+use Rattle.rack_turns.specs.Shadows.{ReplaysSomehow, IsLater}
+use Rattle.rack_turns.specs.Ruling.{AtHome, IsOut, FirstKnows, KnowsBy, WasThere, Racked}
 use Rattle.rack_turns.specs.Passes.{AreNew}
 use Rattle.rack_turns.proofs.Counts.{there, inside}
 
@@ -47,6 +48,7 @@ later-self o empty clock = record {
   tells = refl;
   size = refl;
   replays = λ told. subst (λ (l : List Entry). Replays (with_blocks o.slots o.blocks) o.clock l (with_blocks o.slots o.blocks) o.clock) (sym empty) (refl, refl);
+  somehow = subst (λ (l : List Entry). ReplaysSomehow o.slots o.clock l o.slots o.clock) (sym empty) (refl, refl);
   faults = subst (λ (l : List Entry). Rattle.bay_device.specs.Handling.RisesByFaults l o.faults o.faults) (sym empty) (omega arith);
   clock = clock ∙ ap (λ (l : List Entry). last_clock l) (sym empty);
 }
@@ -85,12 +87,17 @@ module _ {S : Type 0} (now : S → Shadow) where
         each_clock = λ k j at-j. let none-yet : last_clock j ≡ 0 = ap (λ (l : List Entry). last_clock l) (blank-at os k j at-j) in omega (arith, none-yet);
         each_view = views;
         each_host = λ h seat has. absurd (let bad : None ≡ Some seat = has in cc);
+        each_meeting = meetings;
       }
     where
       views : (seat : ℕ) (v : View) → get_elem? (first_view (map now bays) ∷ []) seat ≡ some v → KnowsBy v.role (map now bays) words (map (λ (o : Shadow). let none-yet : List Entry = [] in none-yet) (map now bays)) (first_view (map now bays) ∷ []) (λ h. []) (λ h. None) seat v
       views zero v at = subst (λ (x : View). KnowsBy x.role (map now bays) words (map (λ (o : Shadow). let none-yet : List Entry = [] in none-yet) (map now bays)) (first_view (map now bays) ∷ []) (λ h. []) (λ h. None) 0 x) (some-injective (first_view (map now bays)) v at)
           record { seat_is = refl; opened = refl; no_turn = refl; out = refl; many = refl; back = λ h none-there. no-lists 16 h; new = λ h free. (refl, sym (no-lists 16 h)) }
       views (suc seat) v at = absurd (some-ne-none v (sym at))
+
+      meetings : (seat : ℕ) (v : View) → get_elem? (first_view (map now bays) ∷ []) seat ≡ some v → All (WasThere words (λ h. [])) v.meetings
+      meetings zero v at = subst (λ (x : View). All (WasThere words (λ h. [])) x.meetings) (some-injective (first_view (map now bays)) v at) (All-nil (WasThere words (λ h. [])))
+      meetings (suc seat) v at = absurd (some-ne-none v (sym at))
 
 -- so many of some zeros are that many zeros
 pub zeros-long : (m n : ℕ) → n ≤ m → length (take n (replicate m (let none : ℕ = 0 in none))) ≡ n

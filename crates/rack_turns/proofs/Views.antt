@@ -1,6 +1,7 @@
 -- What is known of each pass, after another pass has changed.
-use Rattle.std.proofs.Common.{◌≡◌, ◌≢◌, ◌⊎◌, ℕ, suc, ◌+◌, ◌≤◌, List, length, set, refl, sym, ap, ◌∙◌, subst, ⊎_elim, arith, Option, Some, None}
-use Rattle.std.specs.Prelude.{slice_index}
+use Rattle.std.proofs.Common.{◌≡◌, ◌≢◌, ◌⊎◌, ℕ, suc, ◌+◌, ◌≤◌, List, length, set, refl, sym, ap, ◌∙◌, subst, ⊎_elim, inl, inr, arith, Option, Some, None}
+use Rattle.std.specs.Prelude.{All, slice_index}
+use Rattle.std.proofs.lemmas.List.Elements.{All-weaker}
 use mathlib.Core.Option.{some, some-injective, some-ne-none}
 use mathlib.Core.Option as maybe
 use mathlib.Core.Logic.{dite}
@@ -16,8 +17,8 @@ use Rattle.rack_turns.specs.declared.view.Role.{Role}
 use Rattle.rack_turns.specs.declared.view.Role.TheVariants.{First, Guest, Gone}
 use Rattle.rack_turns.specs.declared.view.Shadow.{Shadow}
 use Rattle.rack_turns.specs.declared.view.View.{View}
-use Rattle.rack_turns.specs.Views.{total, held, share_of, out_of}
-use Rattle.rack_turns.specs.Ruling.{AtHome, IsOut, GuestKnows, FirstKnows, KnowsBy, Racked}
+use Rattle.rack_turns.specs.Views.{total, held, share_of, out_of, calls_at}
+use Rattle.rack_turns.specs.Ruling.{AtHome, IsOut, GuestKnows, FirstKnows, KnowsBy, WasThere, Racked}
 use Rattle.rack_turns.proofs.Counts.{total-same, inside}
 use Rattle.rack_turns.proofs.Entries.{same-seat}
 
@@ -55,14 +56,21 @@ module _ {S : Type 0} (now : S → Shadow) (openings : List Shadow) (s : State S
       let bad : None ≡ Some (held bay journal) = sym none ∙ (ap (λ (x : View). x.turn) is ∙ out.turn) in
       absurd (let b : Some (held bay journal) ≡ None = sym bad in cc)
 
+  -- who was met stays so where words that name a host still do
+  pub still-met : (words' : List ℕ) (meetings : List Meeting) → ((bay host : ℕ) → slice_index s.words bay ≡ suc host → slice_index words' bay ≡ suc host) → All (WasThere s.words r.lists) meetings → All (WasThere words' r.lists) meetings
+  still-met words' meetings kept = All-weaker (WasThere s.words r.lists) (WasThere words' r.lists)
+      (λ m. ⊎_elim (λ (e : slice_index s.words m.bay.0 ≡ suc m.holder.0). inl (kept m.bay.0 m.holder.0 e)) (λ (e : 1 ≤ length (calls_at m.bay.0 (r.lists m.holder.0))). inr e))
+      meetings
+
   -- a step that leaves all lists: it changes words and homes, and of one guest the meetings and the turn
   pub moved : (id : ℕ) (v : View) (turn : Option Held) (meetings : List Meeting) (words' : List ℕ) (homes' : List (maybe.Option S))
       → get_elem? s.views id ≡ some v → v.role ≡ Guest → length words' ≡ length s.words → length homes' ≡ length s.homes
       → ((bay : ℕ) (journal : List Entry) → get_elem? r.journals bay ≡ some journal → AtHome now openings words' homes' bay journal ⊎ IsOut words' (set s.views id (record v { turn = turn; meetings = meetings })) bay journal)
       → ((bay : ℕ) (journal : List Entry) → turn ≡ Some (held bay journal) → (slice_index words' bay ≡ suc v.standing.host.0) × (get_elem? r.journals bay ≡ some journal))
       → ((bay host : ℕ) → slice_index s.words bay ≡ suc host → slice_index words' bay ≡ suc host)
+      → All (WasThere words' r.lists) meetings
       → Racked now openings (record { words = words'; homes = homes'; views = set s.views id (record v { turn = turn; meetings = meetings }) })
-  moved id v turn meetings words' homes' at guest wide deep bays mine kept =
+  moved id v turn meetings words' homes' at guest wide deep bays mine kept met =
       let w : View = record v { turn = turn; meetings = meetings } in
       let views' : List View = set s.views id w in
       let known : GuestKnows openings s.words r.journals r.lists r.seats id v = guest-at id v at guest in
@@ -95,4 +103,8 @@ module _ {S : Type 0} (now : S → Shadow) (openings : List Shadow) (s : State S
             let is : v ≡ t.0 = some-injective v t.0 (sym at ∙ (ap (λ (n : ℕ). get_elem? s.views n) (sym same) ∙ t.1)) in
             (w, ap (λ (n : ℕ). get_elem? views' n) same ∙ set_here s.views id w (inside s.views id v at), guest, ap (λ (x : View). x.standing.host.0) is ∙ t.3))
             (λ other. (t.0, set_else s.views id seat w other ∙ t.1, t.2, t.3));
+        each_meeting = λ seat u there-u. ⊎_elim
+            (λ (t : (seat ≡ id) × (w ≡ u)). subst (λ (x : View). All (WasThere words' r.lists) x.meetings) t.1 met)
+            (λ (t : (seat ≢ id) × (get_elem? s.views seat ≡ some u)). still-met words' u.meetings kept (r.each_meeting seat u t.1))
+            (at_set s.views id seat w u there-u);
       }

@@ -1,8 +1,10 @@
 -- The bays of a rack that is closed.
-use Rattle.std.specs.Prelude.{◌≡◌, ℕ, ◌<◌, List, [], length, slice_index_or}
+use Rattle.std.specs.Prelude.{◌≡◌, ℕ, ◌≤◌, All, List, [], length, slice_index_or}
 use mathlib.Core.Option.{some}
 use lib.ListN.{get_elem?}
 use Rattle.raid_base.specs.declared.messages.Call.{Call}
+use Rattle.raid_base.specs.declared.messages.Entry.{Entry}
+use Rattle.rack_turns.specs.declared.view.Meeting.{Meeting}
 use Rattle.rack_turns.specs.declared.view.Shadow.{Shadow}
 use Rattle.rack_turns.specs.Views.{entries_of, calls_at}
 use Rattle.rack_turns.specs.Shadows.{IsLater}
@@ -17,3 +19,11 @@ pub record IsClosedBay (opening : Shadow) (ended : List (List Call)) (bay : ℕ)
 pub record AreClosed (openings : List Shadow) (ended : List (List Call)) (bays : List Shadow) : Type 0 where
   pub many : length bays ≡ length openings
   pub each : (bay : ℕ) (opening now : Shadow) → get_elem? openings bay ≡ some opening → get_elem? bays bay ≡ some now → IsClosedBay opening ended bay now
+
+-- an entry of the host stands in the journal
+abbrev pub HasEntryOf : ℕ → List Entry → Type 0
+HasEntryOf host journal = 1 ≤ length (entries_of host journal)
+
+-- who was met at a bay has an entry there
+abbrev pub WereThere : List Meeting → List Shadow → Type 0
+WereThere meetings bays = All (λ (m : Meeting). (bay : Shadow) → get_elem? bays m.bay.0 ≡ some bay → HasEntryOf m.holder.0 bay.journal) meetings

@@ -9,6 +9,8 @@ use Rattle.raid_base.specs.Fits.{fits}
 use Rattle.raid_base.specs.declared.messages.Answer.{Answer}
 use Rattle.raid_base.specs.declared.messages.Ask.{Ask}
 use Rattle.raid_base.specs.declared.messages.Entry.{Entry}
+use Rattle.raid_base.specs.declared.numbers.BayNo.{BayNo}
+use Rattle.raid_base.specs.declared.numbers.HostNo.{HostNo}
 use Rattle.slot_rules.specs.Replay.{next_clock}
 use Rattle.slot_rules.specs.Serving.{IsAskFor}
 use Rattle.bay_device.specs.declared.bay.Bay.{Bay}
@@ -23,8 +25,36 @@ use Rattle.rack_turns.specs.declared.view.Role.{Role}
 use Rattle.rack_turns.specs.declared.view.Role.TheVariants.{First, Guest}
 use Rattle.rack_turns.specs.declared.view.Shadow.{Shadow}
 use Rattle.rack_turns.specs.declared.view.View.{View}
-use Rattle.rack_turns.specs.Views.{total, flag, greatest_clock, last_clock, held, cap_of, gone, first_view, least_cap, giving, new_guest, joined, with_call, with_meeting}
+use Rattle.rack_turns.specs.Views.{total, flag, greatest_clock, last_clock, held, cap_of, gone, first_view, least_cap, giving, new_guest, joined, with_call, with_meeting, after_call, after_gift, after_join}
 use Rattle.rack_turns.specs.Shadows.{shadows, IsLater}
+
+-- what a pass tells by its calls: whether it is the first one
+abbrev pub is_first : Pass → Bool
+is_first pass = pass.is_first
+
+-- its host
+abbrev pub host_of : Pass → HostNo
+host_of pass = pass.standing.host
+
+-- how often it may still ask at the bay
+abbrev pub left_at : Pass → BayNo → ℕ
+left_at pass bay = slice_index pass.standing.left bay.0
+
+-- the greatest clock that it was answered
+abbrev pub top_clock : Pass → ℕ
+top_clock pass = pass.clock
+
+-- how often the passes that it may still give may ask at each bay
+abbrev pub room_of : Pass → ℕ
+room_of pass = pass.standing.room
+
+-- how many passes are out
+abbrev pub out_count : Pass → ℕ
+out_count pass = pass.standing.out
+
+-- whether the host was given a pass
+abbrev pub was_given : Pass → HostNo → Bool
+was_given pass host = slice_index_or pass.standing.given host.0 false
 
 -- what a pass knows
 abbrev pub seen : Pass → View
@@ -99,10 +129,10 @@ pub record MayEnd {S : Type 0} (now : S → Shadow) (bay : ℕ) (m : Me S View) 
   pub left : 0 < slice_index m.0.standing.left bay
 
 -- what a turn tells
-pub record IsTurn (openings : List Shadow) (bay : ℕ) (ask : Ask) (answer : Answer) (v w : View) : Type 0 where
+pub record IsTurn (bay : ℕ) (ask : Ask) (answer : Answer) (v w : View) : Type 0 where
   pub view : w ≡ with_call bay (entry_by ask answer) v
   pub later : ask.clock < answer.clock
-  pub bound : answer.clock ≤ total cap_of openings
+  pub bound : answer.clock ≤ total cap_of v.openings
   pub fitting : IsTrue (fits ask.what answer.reply)
 
 -- the turn of another host was met
@@ -111,16 +141,16 @@ pub record IsMeeting (bay holder : ℕ) (v w : View) : Type 0 where
   pub other : holder ≢ v.standing.host.0
 
 -- by what was tried
-abbrev pub TriedBy : List Shadow → ℕ → Ask → View → View → Try → Type 0
-TriedBy openings bay ask v w (tried.Answer answer) = IsTurn openings bay ask answer v w
-TriedBy openings bay ask v w (tried.Engaged holder) = IsMeeting bay holder.0 v w
+abbrev pub TriedBy : ℕ → Ask → View → View → Try → Type 0
+TriedBy bay ask v w (tried.Answer answer) = IsTurn bay ask answer v w
+TriedBy bay ask v w (tried.Engaged holder) = IsMeeting bay holder.0 v w
 
 -- what an answer makes of a pass: the entry is added to its list, it may ask once less at that bay, and its clock is the
 -- greatest that it was answered
 pub record HasAsked (bay : ℕ) (ask : Ask) (answer : Answer) (old new : Pass) : Type 0 where
   pub view : seen new ≡ with_call bay (entry_by ask answer) (seen old)
   pub first : new.is_first ≡ old.is_first
-  pub standing : new.standing ≡ record old.standing { left = slice_set old.standing.left bay (slice_index old.standing.left bay - 1) }
+  pub standing : new.standing ≡ after_call bay old.standing
   pub clock : new.clock ≡ max old.clock answer.clock
 
 -- what a meeting makes of a pass: its meetings grow by it alone
@@ -146,8 +176,8 @@ IsTried caps bay ask old new (tried.Engaged holder) = HasMetOne bay holder.0 old
 pub record IsNewFirst (openings : List Shadow) (pass : Pass) : Type 0 where
   pub view : seen pass ≡ first_view openings
   pub first : pass.is_first ≡ true
-  pub room : pass.standing.room ≡ least_cap openings
-  pub out : pass.standing.out ≡ 0
+  pub room : room_of pass ≡ least_cap openings
+  pub out : out_count pass ≡ 0
   pub given : pass.standing.given ≡ replicate 16 false
   pub clock : pass.clock ≡ 0
 
@@ -171,7 +201,7 @@ pub record MayGive (host quota : ℕ) (v : View) : Type 0 where
 pub record HasGiven (host quota : ℕ) (old new : Pass) : Type 0 where
   pub view : seen new ≡ giving host quota (seen old)
   pub first : new.is_first ≡ old.is_first
-  pub standing : new.standing ≡ record old.standing { room = old.standing.room - quota; out = old.standing.out + 1; given = slice_set old.standing.given host true }
+  pub standing : new.standing ≡ after_gift host quota old.standing
   pub clock : new.clock ≡ old.clock
 
 -- the pass that was given is its host's, has that quota at each bay and has asked nothing
@@ -186,7 +216,7 @@ pub record IsNewGuest (host quota : ℕ) (old new : Pass) : Type 0 where
 pub record HasJoined (other old new : Pass) : Type 0 where
   pub view : seen new ≡ joined (seen old) (seen other)
   pub first : new.is_first ≡ old.is_first
-  pub standing : new.standing ≡ record old.standing { out = old.standing.out - 1 }
+  pub standing : new.standing ≡ after_join old.standing
   pub clock : new.clock ≡ old.clock
 
 -- what so many tries that met other hosts make of a pass

@@ -1,11 +1,12 @@
 -- The rule of the table of bays: what holds between any two steps of any threads.
-use Rattle.std.specs.Prelude.{◌≡◌, ◌⊎◌, ℕ, suc, ◌+◌, ◌<◌, ◌≤◌, false, List, [], length, slice_index, slice_index_or, Option, Some, None}
+use Rattle.std.specs.Prelude.{◌≡◌, ◌⊎◌, ℕ, suc, ◌+◌, ◌<◌, ◌≤◌, false, All, List, [], length, slice_index, slice_index_or, Option, Some, None}
 use mathlib.Core.Option.{some, none}
 use mathlib.Core.Option as maybe
 use lib.ListN.{get_elem?}
 use Rattle.atomic_table.specs.Table.{State}
 use Rattle.raid_base.specs.declared.messages.Call.{Call}
 use Rattle.raid_base.specs.declared.messages.Entry.{Entry}
+use Rattle.rack_turns.specs.declared.view.Meeting.{Meeting}
 use Rattle.rack_turns.specs.declared.view.Role.{Role}
 use Rattle.rack_turns.specs.declared.view.Role.TheVariants.{First, Guest, Gone}
 use Rattle.rack_turns.specs.declared.view.Shadow.{Shadow}
@@ -55,6 +56,11 @@ KnowsBy First openings words journals views lists seats seat v = FirstKnows open
 KnowsBy Guest openings words journals views lists seats seat v = GuestKnows openings words journals lists seats seat v
 KnowsBy Gone openings words journals views lists seats seat v = v.turn ≡ None
 
+-- a host that was met at a bay has its turn still, or has asked there since
+abbrev pub WasThere : List ℕ → (ℕ → List Call) → Meeting → Type 0
+WasThere words lists m =
+    (slice_index words m.bay.0 ≡ suc m.holder.0) ⊎ (1 ≤ length (calls_at m.bay.0 (lists m.holder.0)))
+
 -- `journals` are those of the bays, or as they were when the turn began. `lists` are what each host asked, and `seats` the
 -- pass that each host has.
 pub record Racked {S : Type 0} (now : S → Shadow) (openings : List Shadow) (s : State S View) : Type 0 where
@@ -70,3 +76,4 @@ pub record Racked {S : Type 0} (now : S → Shadow) (openings : List Shadow) (s 
   pub each_clock : (bay : ℕ) (journal : List Entry) → get_elem? journals bay ≡ some journal → last_clock journal ≤ total length journals
   pub each_view : (seat : ℕ) (v : View) → get_elem? s.views seat ≡ some v → KnowsBy v.role openings s.words journals s.views lists seats seat v
   pub each_host : (host seat : ℕ) → seats host ≡ Some seat → (v : View) × (get_elem? s.views seat ≡ some v) × (v.role ≡ Guest) × (v.standing.host.0 ≡ host)
+  pub each_meeting : (seat : ℕ) (v : View) → get_elem? s.views seat ≡ some v → All (WasThere s.words lists) v.meetings

@@ -91,11 +91,49 @@ abbrev pub least_cap : List Shadow → ℕ
 least_cap [] = 2 ^ 32 - 1
 least_cap (bay ∷ bays) = min (least_cap bays) bay.cap
 
+-- what the first pass has to keep at the start
+abbrev pub first_standing : ℕ → Standing
+first_standing room = record {
+  host = host_no 0;
+  left = replicate 16 0;
+  room = room;
+  out = 0;
+  given = replicate 16 false;
+}
+
+-- what a pass of a host has to keep at the start
+abbrev pub new_standing : ℕ → ℕ → Standing
+new_standing host quota = record {
+  host = host_no host;
+  left = replicate 16 quota;
+  room = 0;
+  out = 0;
+  given = replicate 16 false;
+}
+
+-- after an answer of this bay: it may be asked once less
+abbrev pub after_call : ℕ → Standing → Standing
+after_call bay standing = record standing {
+  left = slice_set standing.left bay (slice_index standing.left bay - 1);
+}
+
+-- after a pass was given to a host: there is that much less room, and one more is out
+abbrev pub after_gift : ℕ → ℕ → Standing → Standing
+after_gift host quota standing = record standing {
+  room = standing.room - quota;
+  out = standing.out + 1;
+  given = slice_set standing.given host true;
+}
+
+-- after a pass was joined: one less is out
+abbrev pub after_join : Standing → Standing
+after_join standing = record standing { out = standing.out - 1 }
+
 -- the first pass at the start
 abbrev pub first_view : List Shadow → View
 first_view openings = record {
   role = First;
-  standing = record { host = host_no 0; left = replicate 16 0; room = least_cap openings; out = 0; given = replicate 16 false };
+  standing = first_standing (least_cap openings);
   openings = openings;
   asked = [];
   meetings = [];
@@ -118,7 +156,7 @@ gone = record {
 -- the pass after it asked: the entry is added to its list, and it may ask once less there
 abbrev pub with_call : ℕ → Entry → View → View
 with_call bay entry v = record v {
-  standing = record v.standing { left = slice_set v.standing.left bay (slice_index v.standing.left bay - 1) };
+  standing = after_call bay v.standing;
   asked = v.asked ++ call_of bay entry ∷ [];
   turn = None;
 }
@@ -129,15 +167,13 @@ with_meeting bay host v = record v { meetings = v.meetings ++ meeting bay host �
 
 -- the first pass after it gave a pass
 abbrev pub giving : ℕ → ℕ → View → View
-giving host quota v = record v {
-  standing = record v.standing { room = v.standing.room - quota; out = v.standing.out + 1; given = slice_set v.standing.given host true };
-}
+giving host quota v = record v { standing = after_gift host quota v.standing }
 
 -- the pass that was given: it has asked nothing
 abbrev pub new_guest : ℕ → ℕ → View → View
 new_guest host quota v = record {
   role = Guest;
-  standing = record { host = host_no host; left = replicate 16 quota; room = 0; out = 0; given = replicate 16 false };
+  standing = new_standing host quota;
   openings = v.openings;
   asked = [];
   meetings = [];
@@ -145,9 +181,10 @@ new_guest host quota v = record {
   ended = [];
 }
 
--- the first pass after another was joined: what that asked is kept
+-- the first pass after another was joined: what that asked is kept, and whom it met
 abbrev pub joined : View → View → View
 joined v w = record v {
-  standing = record v.standing { out = v.standing.out - 1 };
+  standing = after_join v.standing;
+  meetings = v.meetings ++ w.meetings;
   ended = slice_set v.ended w.standing.host.0 w.asked;
 }

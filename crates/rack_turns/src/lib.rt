@@ -4,21 +4,15 @@
 //! keeps what it asked. A bay's journal has for each host just what that host's pass asked.
 #![tactic(auto)]
 
-pub mod asking;
-mod begin;
-pub mod closing;
-mod end;
-pub mod gate;
-pub mod making;
 pub mod pass;
-pub mod plays;
 pub mod rack;
-pub mod splitting;
+pub mod rule;
+mod seats;
 #[cfg(test)]
 mod tests;
-pub mod turns;
+pub mod turn;
 pub mod view;
 
-pub use gate::{Gate, NoGate};
 pub use pass::Pass;
 pub use rack::{Rack, RackFault, Try};
+pub use turn::{Gate, NoGate};

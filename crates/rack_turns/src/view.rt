@@ -46,7 +46,7 @@ pub struct Standing {
 }
 
 /// `openings` are the bays as they were at first. `asked` is all that was asked with the pass, the oldest first. `ended`
-/// has what was asked with the passes that were joined, by host.
+/// has what was asked with the passes that were joined, by host, and `meetings` has theirs too.
 pub struct View {
     pub role: Role,
     pub standing: Standing,

@@ -1,7 +1,7 @@
 use Rattle.std.proofs.Common.{◌≡◌, ◌≤◌, ◌*◌, ◌-◌, ◌^◌, drop, length}
 use Rattle.rack_turns.specs.Shadows.{shadows}
 use Rattle.rack_turns.specs.Views.{total, cap_of, least_cap}
-use Rattle.rack_turns.proofs.making.least_cap.Given as goal
+use Rattle.rack_turns.proofs.rack.least_cap.Given as goal
 
 abbrev pub invariant-loop-k : goal.invariant-loop-k
 invariant-loop-k g l =

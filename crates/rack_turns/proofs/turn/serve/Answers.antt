@@ -1,11 +1,13 @@
-use Rattle.std.proofs.Common.{◌≡◌, List, [], ◌∷◌, sym, ap, ◌∙◌}
+use Rattle.std.proofs.Common.{◌≡◌, ℕ, List, [], ◌∷◌, sym, ap, subst, ◌∙◌}
 use Rattle.atomic_table.specs.Table.{rest}
 use Rattle.slot_rules.specs.Tables.{with_blocks}
 use Rattle.raid_base.specs.declared.messages.Entry.{Entry}
+use Rattle.rack_turns.specs.Shadows.{ReplaysSomehow}
 use Rattle.rack_turns.specs.Views.{last_clock}
 use Rattle.rack_turns.specs.Passes.{entry_by}
 use Rattle.rack_turns.proofs.Entries.{clock-snoc}
-use Rattle.rack_turns.proofs.end.serve.Goals as goal
+use Rattle.rack_turns.proofs.Serving.{somehow-snoc}
+use Rattle.rack_turns.proofs.turn.serve.Goals as goal
 
 pub slot_mut-held-requires : goal.slot_mut-held-requires
 slot_mut-held-requires g c = let t = c.requires.held in (c.requires.table, (t.0, t.1 ∙ ap (λ l. (c.args.bay.0, t.0) ∷ rest l) (sym t.1)))
@@ -33,6 +35,8 @@ returns-clause-served g c =
             tells = says.store.0 ∙ l.tells;
             size = says.store.1 ∙ l.size;
             replays = λ told. says.replays (l.tells ∙ told) (with_blocks o.slots o.blocks) o.clock (l.replays told);
+            somehow = subst (λ (z : List Entry × ℕ). ReplaysSomehow o.slots o.clock z.0 after.slots z.1) (λ i. (sym says.journal i, says.answered i))
+                (somehow-snoc o.slots before.slots after.slots o.clock before.clock before.journal.items (entry_by c.args.ask.now c.handle.result) l.somehow says.somehow (says.answered ∙ says.clock));
             faults = says.faults o.faults l.faults;
             clock = sym says.answered ∙ sym (ap (λ (x : List Entry). last_clock x) says.journal ∙ clock-snoc 0 before.journal.items (entry_by c.args.ask.now c.handle.result));
           };

@@ -1,6 +1,6 @@
 use Rattle.rack_turns.specs.Shadows.{shadow, shadows}
 use Rattle.rack_turns.proofs.Gives.{gives-pass}
-use Rattle.rack_turns.proofs.splitting.cut.Goals as goal
+use Rattle.rack_turns.proofs.seats.cut.Goals as goal
 
 pub split_seat-requires : goal.split_seat-requires
 split_seat-requires g c =

@@ -5,7 +5,7 @@ use mathlib.Core.Logic.{dite}
 use native.Mathlib.Decide.{ℕ_discrete}
 use Rattle.std.specs.Mem.Slots.{slots_items, slots_filled, slots_len, slots_counts}
 use Rattle.rack_turns.proofs.Closes.{take-more}
-use Rattle.rack_turns.proofs.closing.take_all.Goals as goal
+use Rattle.rack_turns.proofs.rack.take_all.Goals as goal
 
 pub loop-i-preserved : goal.loop-i-preserved
 loop-i-preserved g c =
