@@ -7,18 +7,16 @@ use mathlib.Core.Logic.{dite}
 use native.Mathlib.Decide.{ℕ_discrete}
 use lib.ListN.{get_elem?}
 use Rattle.atomic_table.specs.Table.{State, Splits}
-use Rattle.atomic_table.proofs.Lists.{at_set, set_here, set_else, at_longer, at_last}
-use Rattle.raid_base.specs.declared.messages.Call.{Call}
-use Rattle.raid_base.specs.declared.messages.Entry.{Entry}
+use Rattle.atomic_table.proofs.Lists.{at_set, set_else, at_longer, at_last}
 use Rattle.rack_turns.specs.declared.view.Role.{Role}
-use Rattle.rack_turns.specs.declared.view.Role.TheVariants.{First, Guest, Gone}
+use Rattle.rack_turns.specs.declared.view.Role.TheVariants.{First, Guest}
 use Rattle.rack_turns.specs.declared.view.Shadow.{Shadow}
 use Rattle.rack_turns.specs.declared.view.Standing.{Standing}
 use Rattle.rack_turns.specs.declared.view.View.{View}
-use Rattle.rack_turns.specs.Views.{total, held, share_of, share_by, out_of, greatest_clock, giving, new_guest}
+use Rattle.rack_turns.specs.Views.{total, held, share_of, share_by, out_of, giving, new_guest}
 use Rattle.rack_turns.specs.Ruling.{AtHome, IsOut, GuestKnows, FirstKnows, KnowsBy, WasThere, Racked}
 use Rattle.rack_turns.specs.Passes.{MayGive}
-use Rattle.rack_turns.proofs.Counts.{total-set, total-same, total-snoc, inside, put, put-here, put-at, put-else}
+use Rattle.rack_turns.proofs.Counts.{total-set, total-snoc, put, put-here, put-at, put-else}
 use Rattle.rack_turns.proofs.Entries.{same-seat}
 use Rattle.rack_turns.proofs.Views.{knows-moves, first-at}
 

@@ -1,23 +1,21 @@
 -- The step with which a pass is taken back keeps the rule.
-use Rattle.std.proofs.Common.{◌≡◌, ◌≢◌, ◌⊎◌, ℕ, zero, suc, ◌+◌, ◌-◌, ◌<◌, ◌≤◌, true, false, List, [], ◌∷◌, ◌++◌, length, set, refl, sym, ap, ◌∙◌, subst, ⊎_elim, inl, inr, arith, Option, Some, None, get_or-set_other, get_or-set_same, length-set}
-use Rattle.std.specs.Prelude.{All, slice_index, slice_index_or}
+use Rattle.std.proofs.Common.{◌≡◌, ◌≢◌, ℕ, ◌+◌, ◌-◌, ◌<◌, ◌≤◌, List, [], length, set, refl, sym, ap, ◌∙◌, subst, ⊎_elim, inl, inr, arith, Option, Some, None, get_or-set_other, get_or-set_same, length-set}
+use Rattle.std.specs.Prelude.{All, slice_index_or}
 use Rattle.std.proofs.lemmas.List.Elements.{All-nil, All-append}
 use mathlib.Core.Option.{some, some-injective}
 use mathlib.Core.Logic.{dite}
 use native.Mathlib.Decide.{ℕ_discrete}
 use lib.ListN.{get_elem?}
 use Rattle.atomic_table.specs.Table.{State, Joins}
-use Rattle.atomic_table.proofs.Lists.{at_set, set_here, set_else}
-use Rattle.raid_base.specs.declared.messages.Call.{Call}
-use Rattle.raid_base.specs.declared.messages.Entry.{Entry}
+use Rattle.atomic_table.proofs.Lists.{at_set, set_else}
 use Rattle.rack_turns.specs.declared.view.Role.{Role}
-use Rattle.rack_turns.specs.declared.view.Role.TheVariants.{First, Guest, Gone}
+use Rattle.rack_turns.specs.declared.view.Role.TheVariants.{First, Guest}
 use Rattle.rack_turns.specs.declared.view.Shadow.{Shadow}
 use Rattle.rack_turns.specs.declared.view.Standing.{Standing}
 use Rattle.rack_turns.specs.declared.view.View.{View}
-use Rattle.rack_turns.specs.Views.{total, held, share_of, share_by, out_of, out_by, gone, joined}
+use Rattle.rack_turns.specs.Views.{total, share_of, share_by, out_of, out_by, gone, joined}
 use Rattle.rack_turns.specs.Ruling.{AtHome, IsOut, GuestKnows, FirstKnows, KnowsBy, WasThere, Racked}
-use Rattle.rack_turns.proofs.Counts.{total-set, total-at, inside, put, put-here, put-at, put-else}
+use Rattle.rack_turns.proofs.Counts.{total-set, total-at, put, put-at, put-else}
 use Rattle.rack_turns.proofs.Views.{knows-moves, first-at, guest-at, one-guest, not-out-with}
 
 module _ {S : Type 0} (now : S → Shadow) (openings : List Shadow) (id other : ℕ) (v w : View) (first : v.role ≡ First) (guest : w.role ≡ Guest) (no-turn : w.turn ≡ None) (s : State S View) (r : Racked now openings s) (at : get_elem? s.views id ≡ some v) (apart : other ≢ id) (there : get_elem? (set s.views id (joined v w)) other ≡ some w) where

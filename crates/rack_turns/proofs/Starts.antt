@@ -1,23 +1,20 @@
 -- The rule holds of bays that were asked nothing yet.
-use Rattle.std.proofs.Common.{◌≡◌, ◌≢◌, ◌⊎◌, ℕ, zero, suc, ◌+◌, ◌-◌, ◌^◌, ◌<◌, ◌≤◌, min, false, IsTrue, List, [], ◌∷◌, length, map, replicate, take, refl, sym, ap, ◌∙◌, subst, inl, inr, arith, Option, Some, None}
+use Rattle.std.proofs.Common.{◌≡◌, ℕ, zero, suc, ◌<◌, ◌≤◌, List, [], ◌∷◌, length, map, replicate, take, refl, sym, ap, ◌∙◌, subst, inl, arith, Some, None}
 use Rattle.std.specs.Prelude.{All, slice_index, slice_index_or}
 use Rattle.std.proofs.lemmas.List.Elements.{All-nil}
-use mathlib.Core.Option.{none, some, some-injective, some-ne-none}
-use mathlib.Core.Option as maybe
+use mathlib.Core.Option.{some, some-injective, some-ne-none}
 use lib.ListN.{get_elem?, length-map}
-use Rattle.atomic_table.specs.Table.{State, opening}
+use Rattle.atomic_table.specs.Table.{opening}
 use Rattle.atomic_table.proofs.Lists.{at_map}
 use Rattle.raid_base.specs.declared.messages.Call.{Call}
 use Rattle.raid_base.specs.declared.messages.Entry.{Entry}
 use Rattle.slot_rules.specs.Replay.{Replays}
 use Rattle.slot_rules.specs.Tables.{with_blocks}
-use Rattle.rack_turns.specs.declared.view.Role.{Role}
-use Rattle.rack_turns.specs.declared.view.Role.TheVariants.{First, Guest, Gone}
 use Rattle.rack_turns.specs.declared.view.Shadow.{Shadow}
 use Rattle.rack_turns.specs.declared.view.View.{View}
-use Rattle.rack_turns.specs.Views.{total, share_of, out_of, least_cap, first_view, last_clock, entries_of, calls_at}
+use Rattle.rack_turns.specs.Views.{least_cap, first_view, last_clock, entries_of}
 use Rattle.rack_turns.specs.Shadows.{ReplaysSomehow, IsLater}
-use Rattle.rack_turns.specs.Ruling.{AtHome, IsOut, FirstKnows, KnowsBy, WasThere, Racked}
+use Rattle.rack_turns.specs.Ruling.{KnowsBy, WasThere, Racked}
 use Rattle.rack_turns.specs.Passes.{AreNew}
 use Rattle.rack_turns.proofs.Counts.{there, inside}
 

@@ -1,4 +1,4 @@
-use Rattle.std.proofs.Common.{◌≡◌, List, sym, ap, ◌∙◌, subst}
+use Rattle.std.proofs.Common.{◌≡◌, sym, ap, ◌∙◌, subst}
 use Rattle.std.specs.Mem.Slots.{slots_items}
 use Rattle.rack_turns.specs.declared.view.Standing.{Standing}
 use Rattle.rack_turns.specs.declared.view.View.{View}

@@ -1,6 +1,5 @@
-use Rattle.std.proofs.Common.{◌≡◌, ◌<◌, ◌≤◌, [], ◌∷◌, sym, ap, ◌∙◌, arith, vec_len, None}
+use Rattle.std.proofs.Common.{◌≡◌, ◌≤◌, [], ◌∷◌, sym, ap, ◌∙◌, arith, vec_len}
 use Rattle.rack_turns.specs.declared.view.View.{View}
-use Rattle.rack_turns.specs.declared.view.Role.TheVariants.{First, Guest}
 use Rattle.rack_turns.specs.Views.{joined}
 use Rattle.rack_turns.specs.Passes.{seen, openings_of, role_of}
 use Rattle.rack_turns.proofs.Passing.{joined-is-pass, only}

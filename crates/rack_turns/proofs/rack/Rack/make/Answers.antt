@@ -1,4 +1,4 @@
-use Rattle.std.proofs.Common.{◌≡◌, ◌≤◌, ℕ, length, List, replicate, take, sym, ap, ◌∙◌, subst, arith, vec_len}
+use Rattle.std.proofs.Common.{◌≡◌, ◌≤◌, ℕ, length, List, replicate, take, sym, ◌∙◌, subst, arith, vec_len}
 use Rattle.atomic_table.specs.Table.{opening}
 use Rattle.rack_turns.specs.Shadows.{shadow, shadows}
 use Rattle.rack_turns.specs.Views.{first_view}
