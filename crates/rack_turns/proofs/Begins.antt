@@ -35,7 +35,7 @@ module _ {S : Type 0} (now : S → Shadow) (openings : List Shadow) where
 
   -- the journals have together at most as many entries as the sum of the caps
   pub clocks-below : (s : State S View) (r : Rule s) → total length r.journals ≤ total cap_of openings
-  clocks-below s r = lengths-below r.journals openings r.many (λ i x o at-x at-o. let room : length x + total (share_of i) s.views ≤ o.cap = r.each_room i x o at-x at-o in omega (arith, room))
+  clocks-below s r = lengths-below r.journals openings r.many (λ i x o at-x at-o. let room : length x + total (share_of i) s.views ≤ o.cap = r.each_room i x at-x o at-o in omega (arith, room))
 
   taken : (s : State S View) (r : Rule s) (slots id k host : ℕ) (me : Me S View) (journal : List Entry) → get_elem? s.views id ≡ some me.0 → IsReady host me.0 → get_elem? r.journals k ≡ some journal
       → slice_index s.words k ≡ 0 → AtHome now openings s.words s.homes k journal → After s slots id me k (host + 1)
@@ -55,7 +55,7 @@ module _ {S : Type 0} (now : S → Shadow) (openings : List Shadow) where
       (λ (other : bay ≢ k). get_or-set_other s.words k bay (host + 1) 0 other ∙ has)) in
       let room : (o : Shadow) → get_elem? openings k ≡ some o → length journal + slice_index v.standing.left k ≤ o.cap =
       (λ o at-o.
-      let all : length journal + total (share_of k) s.views ≤ o.cap = r.each_room k journal o here at-o in
+      let all : length journal + total (share_of k) s.views ≤ o.cap = r.each_room k journal here o at-o in
       let own : share_of k v ≤ total (share_of k) s.views = total-at (share_of k) s.views id v at in
       let left : share_of k v ≡ slice_index v.standing.left k = ap (λ (x : Role). share_by x v.standing k) ready.guest in
       omega (arith, all, own, left)) in (

@@ -149,7 +149,7 @@ module _ {S : Type 0} (now : S → Shadow) (openings : List Shadow) (s : State S
 
   room-at-k : (o : Shadow) → get_elem? openings k ≡ some o → length journal' + total (share_of k) views' ≤ o.cap
   room-at-k o at-o =
-      let before : length may.journal + total (share_of k) s.views ≤ o.cap = r.each_room k may.journal o mine.1 at-o in
+      let before : length may.journal + total (share_of k) s.views ≤ o.cap = r.each_room k may.journal mine.1 o at-o in
       let moves : total (share_of k) views' + share_of k v ≡ total (share_of k) s.views + share_of k w = total-set (share_of k) s.views id v w at in
       let a : share_of k v ≡ slice_index me.0.standing.left k = share-v k in
       let b : share_of k w ≡ slice_index me.0.standing.left k - 1 = share-w k ∙ get_or-set_same me.0.standing.left k (slice_index me.0.standing.left k - 1) 0 (within me.0.standing.left k may.left) in
@@ -159,7 +159,7 @@ module _ {S : Type 0} (now : S → Shadow) (openings : List Shadow) (s : State S
 
   room-else : (bay : ℕ) (journal : List Entry) (o : Shadow) → bay ≢ k → get_elem? r.journals bay ≡ some journal → get_elem? openings bay ≡ some o → length journal + total (share_of bay) views' ≤ o.cap
   room-else bay journal o apart there-j at-o =
-      let before : length journal + total (share_of bay) s.views ≤ o.cap = r.each_room bay journal o there-j at-o in
+      let before : length journal + total (share_of bay) s.views ≤ o.cap = r.each_room bay journal there-j o at-o in
       let same : share_of bay w ≡ share_of bay v = share-w bay ∙ (get_or-set_other me.0.standing.left k bay (slice_index me.0.standing.left k - 1) 0 apart ∙ sym (share-v bay)) in
       let moves : total (share_of bay) views' ≡ total (share_of bay) s.views = total-same (share_of bay) s.views id v w at same in
       omega (arith, before, moves)
@@ -266,7 +266,7 @@ module _ {S : Type 0} (now : S → Shadow) (openings : List Shadow) (s : State S
         (λ (t : (bay ≡ k) × (journal' ≡ journal)). subst (λ (z : ℕ × List Entry). entries_of h z.1 ≡ calls_at z.0 (lists' h)) (λ i. (sym t.0 i, t.1 i)) (list-at-k h))
         (λ (t : (bay ≢ k) × (get_elem? r.journals bay ≡ some journal)). list-else bay journal t.0 t.1 h)
         (at_set r.journals k bay journal' journal there-j);
-    each_room = λ bay journal o there-j at-o. ⊎_elim
+    each_room = λ bay journal there-j o at-o. ⊎_elim
         (λ (t : (bay ≡ k) × (journal' ≡ journal)). subst (λ (z : ℕ × List Entry). get_elem? openings z.0 ≡ some o → length z.1 + total (share_of z.0) views' ≤ o.cap) (λ i. (sym t.0 i, t.1 i)) (room-at-k o) at-o)
         (λ (t : (bay ≢ k) × (get_elem? r.journals bay ≡ some journal)). room-else bay journal o t.0 t.1 at-o)
         (at_set r.journals k bay journal' journal there-j);

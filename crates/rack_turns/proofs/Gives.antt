@@ -138,8 +138,8 @@ module _ {S : Type 0} (now : S → Shadow) (openings : List Shadow) (id host quo
         (λ (o : IsOut s.words s.views bay journal). inr record { seat = o.seat; view = o.view; at = stays o.seat o.view o.at (differ o.seat o.view o.at o.guest); guest = o.guest; turn = o.turn; taken = o.taken })
         (r.each_bay bay journal there-j);
     each_list = r.each_list;
-    each_room = λ bay journal o there-j at-o.
-        let before : length journal + total (share_of bay) s.views ≤ o.cap = r.each_room bay journal o there-j at-o in
+    each_room = λ bay journal there-j o at-o.
+        let before : length journal + total (share_of bay) s.views ≤ o.cap = r.each_room bay journal there-j o at-o in
         let moves : total (share_of bay) views' + share_of bay v ≡ total (share_of bay) s.views + share_of bay left + share_of bay right = totals (share_of bay) in
         let a : share_of bay v ≡ v.standing.room = ap (λ (x : Role). share_by x v.standing bay) may.first in
         let st : Standing = record v.standing { room = v.standing.room - quota; out = v.standing.out + 1; given = set v.standing.given host true } in

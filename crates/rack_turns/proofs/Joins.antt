@@ -126,8 +126,8 @@ module _ {S : Type 0} (now : S → Shadow) (openings : List Shadow) (id other : 
         })
         (r.each_bay bay journal there-j);
     each_list = r.each_list;
-    each_room = λ bay journal o there-j at-o.
-        let before : length journal + total (share_of bay) s.views ≤ o.cap = r.each_room bay journal o there-j at-o in
+    each_room = λ bay journal there-j o at-o.
+        let before : length journal + total (share_of bay) s.views ≤ o.cap = r.each_room bay journal there-j o at-o in
         let t = totals (share_of bay) in
         let a : total (share_of bay) views' + share_of bay w ≡ total (share_of bay) views₁ + share_of bay gone = t.0 in
         let b : total (share_of bay) views₁ + share_of bay v ≡ total (share_of bay) s.views + share_of bay both = t.1 in

@@ -77,7 +77,7 @@ module _ {S : Type 0} (now : S → Shadow) where
               keeps = fresh.0 ∙ sym (blank-at os k j at-j);
             };
         each_list = λ k j at-j h. ap (λ (l : List Entry). entries_of h l) (blank-at os k j at-j);
-        each_room = λ k j o at-j at-o.
+        each_room = λ k j at-j o at-o.
             let low : least_cap os ≤ o.cap = least-below os k o at-o in
             let none-yet : length j ≡ 0 = ap (λ (l : List Entry). length l) (blank-at os k j at-j) in
             omega (arith, low, none-yet);

@@ -83,8 +83,8 @@ module _ {S : Type 0} (now : S → Shadow) (openings : List Shadow) (s : State S
         many = r.many;
         each_bay = bays;
         each_list = r.each_list;
-        each_room = λ bay journal opening there-j there-o.
-            let before : length journal + total (share_of bay) s.views ≤ opening.cap = r.each_room bay journal opening there-j there-o in
+        each_room = λ bay journal there-j opening there-o.
+            let before : length journal + total (share_of bay) s.views ≤ opening.cap = r.each_room bay journal there-j opening there-o in
             let same : total (share_of bay) (set s.views id w) ≡ total (share_of bay) s.views = total-same (share_of bay) s.views id v w at refl in
             omega (arith, before, same);
         each_clock = r.each_clock;

@@ -6,7 +6,7 @@ use Rattle.raid_base.specs.declared.messages.Call.{Call}
 use Rattle.raid_base.specs.declared.messages.Entry.{Entry}
 use Rattle.rack_turns.specs.declared.view.Meeting.{Meeting}
 use Rattle.rack_turns.specs.declared.view.Shadow.{Shadow}
-use Rattle.rack_turns.specs.Views.{entries_of, calls_at}
+use Rattle.rack_turns.specs.Views.{IfAt, entries_of, calls_at}
 use Rattle.rack_turns.specs.Shadows.{IsLater}
 
 -- the bay is what it was when the rack was made, later on, and for each host the entries of its journal are what that
@@ -18,7 +18,8 @@ pub record IsClosedBay (opening : Shadow) (ended : List (List Call)) (bay : ℕ)
 -- the bays come back in order
 pub record AreClosed (openings : List Shadow) (ended : List (List Call)) (bays : List Shadow) : Type 0 where
   pub many : length bays ≡ length openings
-  pub each : (bay : ℕ) (opening now : Shadow) → get_elem? openings bay ≡ some opening → get_elem? bays bay ≡ some now → IsClosedBay opening ended bay now
+  pub each : (bay : ℕ) (opening now : Shadow) → get_elem? openings bay ≡ some opening
+      → get_elem? bays bay ≡ some now → IsClosedBay opening ended bay now
 
 -- an entry of the host stands in the journal
 abbrev pub HasEntryOf : ℕ → List Entry → Type 0
@@ -26,4 +27,4 @@ HasEntryOf host journal = 1 ≤ length (entries_of host journal)
 
 -- who was met at a bay has an entry there
 abbrev pub WereThere : List Meeting → List Shadow → Type 0
-WereThere meetings bays = All (λ (m : Meeting). (bay : Shadow) → get_elem? bays m.bay.0 ≡ some bay → HasEntryOf m.holder.0 bay.journal) meetings
+WereThere meetings bays = All (λ (m : Meeting). IfAt bays m.bay.0 (λ bay. HasEntryOf m.holder.0 bay.journal)) meetings

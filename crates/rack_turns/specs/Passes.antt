@@ -25,7 +25,7 @@ use Rattle.rack_turns.specs.declared.view.Role.{Role}
 use Rattle.rack_turns.specs.declared.view.Role.TheVariants.{First, Guest}
 use Rattle.rack_turns.specs.declared.view.Shadow.{Shadow}
 use Rattle.rack_turns.specs.declared.view.View.{View}
-use Rattle.rack_turns.specs.Views.{total, flag, greatest_clock, last_clock, held, cap_of, gone, first_view, least_cap, giving, new_guest, joined, with_call, with_meeting, after_call, after_gift, after_join}
+use Rattle.rack_turns.specs.Views.{IfAt, EachAt, total, flag, greatest_clock, last_clock, held, cap_of, gone, first_view, least_cap, giving, new_guest, joined, with_call, with_meeting, after_call, after_gift, after_join}
 use Rattle.rack_turns.specs.Shadows.{shadows, IsLater}
 
 -- what a pass tells by its calls: whether it is the first one
@@ -91,7 +91,7 @@ caps_of rack = total cap_of (openings_of rack)
 
 -- an ask that may be handled by this bay
 abbrev pub IsAskAt : List Shadow → ℕ → Ask → Type 0
-IsAskAt openings bay ask = (opening : Shadow) → get_elem? openings bay ≡ some opening → IsAskFor (length opening.slots.slots) ask
+IsAskAt openings bay ask = IfAt openings bay (λ opening. IsAskFor (length opening.slots.slots) ask)
 
 abbrev pub entry_by : Ask → Answer → Entry
 entry_by ask answer = record { ask = ask; clock = answer.clock; reply = answer.reply }
@@ -169,7 +169,8 @@ pub record IsAnswerTo (caps : ℕ) (ask : Ask) (answer : Answer) : Type 0 where
 
 -- what a try tells of the pass
 abbrev pub IsTried : ℕ → ℕ → Ask → Pass → Pass → Try → Type 0
-IsTried caps bay ask old new (tried.Answer answer) = HasAsked bay ask answer old new × IsAnswerTo caps ask answer
+IsTried caps bay ask old new (tried.Answer answer) =
+    HasAsked bay ask answer old new × IsAnswerTo caps ask answer
 IsTried caps bay ask old new (tried.Engaged holder) = HasMetOne bay holder.0 old new
 
 -- the first pass at the start: no host was given a pass, none is out, and it may give as much as the least cap allows
@@ -183,7 +184,7 @@ pub record IsNewFirst (openings : List Shadow) (pass : Pass) : Type 0 where
 
 -- bays that were asked nothing yet
 abbrev pub AreNew : List Shadow → Type 0
-AreNew bays = (bay : ℕ) (opening : Shadow) → get_elem? bays bay ≡ some opening → (opening.journal ≡ []) × (opening.clock ≡ 0)
+AreNew bays = EachAt bays (λ bay opening. (opening.journal ≡ []) × (opening.clock ≡ 0))
 
 -- the bays that a fault hands back
 abbrev pub bays_back : {D : Type 0} {g : Ghosts D} → RackFault D g → List (Bay D g)

@@ -36,7 +36,8 @@ ReplaysSomehow slots clock (entry ∷ entries) slots' clock' =
 
 -- the journal replays by the slot rule, over the store's content
 abbrev pub ReplaysTold : Shadow → Shadow → Type 0
-ReplaysTold opening now = Replays (with_blocks opening.slots opening.blocks) opening.clock now.journal (with_blocks now.slots now.blocks) now.clock
+ReplaysTold opening now =
+    Replays (with_blocks opening.slots opening.blocks) opening.clock now.journal (with_blocks now.slots now.blocks) now.clock
 
 -- since it was brought in a bay has kept its mode, patience, rows and cap, it replays its journal, over its store's content
 -- where that is told, and the count of its store's faults has risen by the Faults in it

@@ -1,5 +1,7 @@
 -- What a pass knows, and what a host asked.
-use Rattle.std.specs.Prelude.{ℕ, ◌+◌, ◌-◌, ◌^◌, max, min, ◌==◌, Bool, true, false, if◌then◌else◌, List, [], ◌∷◌, ◌++◌, replicate, slice_index, slice_set, None}
+use Rattle.std.specs.Prelude.{◌≡◌, ℕ, ◌+◌, ◌-◌, ◌^◌, max, min, ◌==◌, Bool, true, false, if◌then◌else◌, List, [], ◌∷◌, ◌++◌, replicate, slice_index, slice_set, None}
+use mathlib.Core.Option.{some}
+use lib.ListN.{get_elem?}
 use Rattle.raid_base.specs.declared.numbers.HostNo.{HostNo}
 use Rattle.raid_base.specs.declared.numbers.BayNo.{BayNo}
 use Rattle.raid_base.specs.declared.messages.Call.{Call}
@@ -18,6 +20,14 @@ bay_no k = record { 0 = k }
 abbrev pub host_no : ℕ → HostNo
 host_no h = record { 0 = h }
 
+-- P holds of the element at this place, if there is one
+abbrev pub IfAt : {X : Type 0} → List X → ℕ → (X → Type 0) → Type 0
+IfAt {X} xs k P = (x : X) → get_elem? xs k ≡ some x → P x
+
+-- P holds of each element, at its place
+abbrev pub EachAt : {X : Type 0} → List X → (ℕ → X → Type 0) → Type 0
+EachAt {X} xs P = (k : ℕ) (x : X) → get_elem? xs k ≡ some x → P k x
+
 -- f of each, added up
 abbrev pub total : {X : Type 0} → (X → ℕ) → List X → ℕ
 total f [] = 0
@@ -31,7 +41,8 @@ flag false = 0
 -- the entries of a host
 abbrev pub entries_of : ℕ → List Entry → List Entry
 entries_of host [] = []
-entries_of host (entry ∷ entries) = if entry.ask.host.0 == host then entry ∷ entries_of host entries else entries_of host entries
+entries_of host (entry ∷ entries) =
+    if entry.ask.host.0 == host then entry ∷ entries_of host entries else entries_of host entries
 
 -- a call as an entry of its bay
 abbrev pub entry_of : Call → Entry
@@ -39,12 +50,17 @@ entry_of call = record { ask = call.ask; clock = call.answer.clock; reply = call
 
 -- an entry of a bay as a call
 abbrev pub call_of : ℕ → Entry → Call
-call_of bay entry = record { bay = bay_no bay; ask = entry.ask; answer = record { clock = entry.clock; reply = entry.reply } }
+call_of bay entry = record {
+  bay = bay_no bay;
+  ask = entry.ask;
+  answer = record { clock = entry.clock; reply = entry.reply };
+}
 
 -- the calls at a bay, as entries
 abbrev pub calls_at : ℕ → List Call → List Entry
 calls_at bay [] = []
-calls_at bay (call ∷ calls) = if call.bay.0 == bay then entry_of call ∷ calls_at bay calls else calls_at bay calls
+calls_at bay (call ∷ calls) =
+    if call.bay.0 == bay then entry_of call ∷ calls_at bay calls else calls_at bay calls
 
 -- the greatest clock that was answered, 0 where there is none
 abbrev pub greatest_clock : List Call → ℕ
