@@ -9,7 +9,7 @@ use crate::pass::Pass;
 use crate::rule::Turns;
 use crate::seats::{cut_for, glue};
 use crate::turn::{Gate, turn};
-use crate::view::{Standing, View};
+use crate::view::View;
 use atomic_table::{Badge, Closed, Refused, Table};
 use bay_device::Bay;
 use block_store::Store;

@@ -1,5 +1,5 @@
 //! Seats at the table are cut in two, and put together again.
-ghost use Rattle.std.specs.Prelude.{◌≡◌, ◌<◌, ℕ, [], None};
+ghost use Rattle.std.specs.Prelude.{◌≡◌, ◌<◌, [], None};
 ghost use Rattle.rack_turns.specs.declared.view.Role.TheVariants.{First, Guest};
 ghost use Rattle.rack_turns.specs.Views.{giving, new_guest, joined};
 ghost use Rattle.rack_turns.specs.Passes.{MayGive};
