@@ -8,8 +8,6 @@ pub mod pass;
 pub mod rack;
 pub mod rule;
 mod seats;
-#[cfg(test)]
-mod tests;
 pub mod turn;
 pub mod view;
 

@@ -3,9 +3,9 @@ ghost use Rattle.std.specs.Prelude.{◌≡◌, ◌<◌, ℕ, [], All, IsTrue, tr
 ghost use Rattle.slot_rules.specs.Serving.{IsAskFor};
 ghost use Rattle.rack_turns.specs.Passes.{IsPassOf, openings_of, is_first};
 
-use crate::{Gate, NoGate, Pass, Rack, Try};
 use bay_device::Bay;
 use block_store::{MemoryStore, Store};
+use rack_turns::{Gate, NoGate, Pass, Rack, Try};
 use raid_base::{Ask, BayNo, Entry, HostNo, Mode, Request};
 use std::alloc::Global;
 use std::sync::Wait;
