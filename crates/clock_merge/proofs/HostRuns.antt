@@ -11,10 +11,10 @@ use Rattle.slot_rules.specs.Rules.{rule}
 use Rattle.slot_rules.specs.Replay.{Replays}
 use Rattle.script_text.specs.Script.{Script}
 use Rattle.histories.specs.Progress.{Progress, asks, takes, work_errand}
+use Rattle.histories.specs.HostRuns.{IsHostRun}
 use Rattle.histories.specs.History.{if_taken, progress_at}
 use Rattle.histories.proofs.bounds.BoundsTakes.{sent-errand}
 use Rattle.histories.proofs.bounds.BoundsClocks.{takes-clock}
-use Rattle.clock_merge.specs.Tied.{IsHostRun}
 use Rattle.clock_merge.proofs.LineLemmas.{same-test, all-weaker}
 
 -- the calls that a host makes from this progress on

@@ -2,6 +2,8 @@ pub mod LineLemmas
 pub mod UniqueMerges
 pub mod HostRuns
 pub mod MergeSteps
+pub mod JournalFaults
+pub mod HostsAlone
 pub mod MergedPlays
 pub mod LineCounts
 pub mod LinesSoFar

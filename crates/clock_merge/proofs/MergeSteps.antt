@@ -23,7 +23,7 @@ abbrev pub line_of : Call → Line
 line_of call = record { bay = call.bay; entry = entry_of call }
 
 -- a list at the place where another was put behind it
-seam : (before : List Entry) (entry : Entry) (entries : List Entry) → slice_get (before ++ entry ∷ entries) (length before) ≡ Some entry
+pub seam : (before : List Entry) (entry : Entry) (entries : List Entry) → slice_get (before ++ entry ∷ entries) (length before) ≡ Some entry
 seam [] entry entries = refl
 seam (first ∷ before) entry entries = seam before entry entries
 
@@ -145,6 +145,9 @@ module _ (script : Script) (journals : List (List Entry)) (transcripts : HostNo 
         ∙ ap (λ (fails : Bool). answered script history (record { bay = call.bay; ask = call.ask }) fails ∷ history) fault
         ∙ ap (λ (c : Call). c ∷ history) (sym replied)
 
+    pub told : call ≡ answered script history (record { bay = call.bay; ask = call.ask }) (faults_of journals call.bay (length (journal call.bay history)))
+    told = replied ∙ ap (λ (fails : Bool). answered script history (record { bay = call.bay; ask = call.ask }) fails) (sym fault)
+
     -- each bay
     bay-stands : (k : ℕ) → k < script.n → BayStands k (call ∷ history) lines
     bay-stands k below = by (call.bay.0 == k) (along.bays k below) where
@@ -200,15 +203,28 @@ module _ (script : Script) (journals : List (List Entry)) (transcripts : HostNo 
     pub along-call : Along (call ∷ history) lines
     along-call = record { is = (along.is, record { asked = own.runs.2; replied = replied }); bays = bay-stands; hosts = host-stands }
 
-  -- one turn of the play
-  pub along-turn : (history : List Call) (line : Line) (lines : List Line) → RiseFrom line lines → line.bay.0 < script.n → Along history (line ∷ lines) →
-      Along (after_turn script (faults_of journals) history (turn_of line)) lines
-  along-turn history line lines rise inside along =
+  -- one turn of the play: the merge's next line is answered
+  pub record IsTurned (history : List Call) (line : Line) (lines : List Line) (now : List Call) : Type 0 where
+    pub call : Call
+    pub is : now ≡ call ∷ history
+    pub same : line_of call ≡ line
+    pub told : call ≡ answered script history (record { bay = call.bay; ask = call.ask }) (faults_of journals call.bay (length (journal call.bay history)))
+    pub along : Along (call ∷ history) lines
+
+  pub turned-along : (history : List Call) (line : Line) (lines : List Line) → RiseFrom line lines → line.bay.0 < script.n → Along history (line ∷ lines) →
+      IsTurned history line lines (after_turn script (faults_of journals) history (turn_of line))
+  turned-along history line lines rise inside along =
       let found = along.hosts line.entry.ask.host in
       let next = next-call history line lines rise inside found.0 found.1 in
       let own : HostStands line.entry.ask.host history (line ∷ lines) (next.call ∷ next.rest) =
       subst (λ (left : List Call). HostStands line.entry.ask.host history (line ∷ lines) left) next.is found.1 in
       subst (λ (l : Line). Along history (l ∷ lines) → HostStands l.entry.ask.host history (l ∷ lines) (next.call ∷ next.rest) → l.bay.0 < script.n →
-      Along (after_turn script (faults_of journals) history (turn_of l)) lines) next.same
-      (λ a h i. subst (λ (now : List Call). Along now lines) (sym (turned history next.call next.rest lines a h i)) (along-call history next.call next.rest lines a h i))
+      IsTurned history l lines (after_turn script (faults_of journals) history (turn_of l))) next.same
+      (λ a h i. record {
+        call = next.call;
+        is = turned history next.call next.rest lines a h i;
+        same = refl;
+        told = told history next.call next.rest lines a h i;
+        along = along-call history next.call next.rest lines a h i;
+      })
       along own inside

@@ -1,5 +1,6 @@
 -- Journals and transcripts of one run.
-use Rattle.std.specs.Prelude.{◌≡◌, ℕ, ◌<◌, ◌==◌, Bool, false, if◌then◌else◌, List, [], ◌∷◌, length, map, reverse, Option, Some, None, slice_get, slice_index_or}
+use Rattle.std.specs.Prelude.{◌≡◌, ℕ, ◌<◌, ◌==◌, Bool, false, if◌then◌else◌, List, [], ◌∷◌, length, map, reverse, flat_map, Option, Some, None, slice_get, slice_index_or}
+use Rattle.std.specs.List.{list_all}
 use Rattle.raid_base.specs.declared.numbers.HostNo.{HostNo}
 use Rattle.raid_base.specs.declared.numbers.BayNo.{BayNo}
 use Rattle.raid_base.specs.declared.messages.Call.{Call}
@@ -8,10 +9,14 @@ use Rattle.raid_base.specs.Replies.{is_fault}
 use Rattle.stripe_layout.specs.Placement.{bay}
 use Rattle.slot_rules.specs.Slots.{Bay, first_bay}
 use Rattle.slot_rules.specs.Replay.{Replays}
-use Rattle.script_text.specs.Script.{Script}
+use Rattle.script_text.specs.Script.{Script, host_numbers}
 use Rattle.script_text.specs.Ranges.{IsScript}
-use Rattle.histories.specs.Progress.{asks}
-use Rattle.histories.specs.History.{Faults, progress_at, entry_of, journal, transcript, IsHistory, play}
+use Rattle.histories.specs.Progress.{Ending}
+use Rattle.histories.specs.History.{Faults, progress_at, entry_of, journal, transcript, turns_of, endings_at, has_ended, faults_in, IsHistory, play}
+use Rattle.histories.specs.HostRuns.{IsHostRun}
+use Rattle.histories.specs.Played.{Told}
+use Rattle.histories.specs.Results.{host_results, results, contents}
+use Rattle.histories.specs.Turns.{all_ended}
 use Rattle.clock_merge.specs.Merge.{Line, IsMerge, turn_of}
 
 -- the entries of a host, in their order
@@ -28,13 +33,6 @@ calls_at bay (call ∷ calls) = let rest = calls_at bay calls in if call.bay.0 =
 abbrev pub AreTied : List (List Entry) → (HostNo → List Call) → Type 0
 AreTied journals transcripts = (k : ℕ) → k < length journals → (host : HostNo) → entries_of host (slice_index_or journals k []) ≡ calls_at (bay k) (transcripts host)
 
--- The calls of one host by itself: each is the next of its progress after the earlier ones; the newest first.
-abbrev pub IsHostRun : Script → HostNo → List Call → Type 0
-IsHostRun script host [] = Unit {0}
-IsHostRun script host (call ∷ earlier) =
-    IsHostRun script host earlier × (call.ask.host ≡ host) × (call.bay.0 < script.n)
-    × (asks host (progress_at script host earlier) call.ask.moment ≡ Some (record { bay = call.bay; ask = call.ask }))
-
 -- whether it has a Fault reply, false where there is none
 abbrev pub has_fault : Option Entry → Bool
 has_fault None = false
@@ -49,6 +47,15 @@ pub record IsPlayOfMerge (script : Script) (journals : List (List Entry)) (trans
   pub along : IsHistory script history
   pub same_journals : (k : ℕ) → k < script.n → journal (bay k) history ≡ slice_index_or journals k []
   pub same_transcripts : (host : HostNo) → transcript host history ≡ transcripts host
+  -- it has the turns of the merge, and the faults that it tells are those of the journals
+  pub turns : (lines : List Line) → IsMerge journals lines → turns_of history ≡ map turn_of lines
+  pub faults : (at : BayNo) (place : ℕ) → faults_in history at place ≡ faults_of journals at place
+  pub told : Told script (faults_of journals) history
+  -- each host is where its transcript alone leads
+  pub progress : (host : HostNo) → progress_at script host history ≡ progress_at script host (reverse (transcripts host))
+  pub results : results script history ≡ flat_map (λ host. host_results script (reverse (transcripts host)) host) (host_numbers script)
+  pub contents : contents script history ≡ map (λ (e : Ending). e.contents) (flat_map (λ host. endings_at script (reverse (transcripts host)) host) (host_numbers script))
+  pub ended : all_ended script history ≡ list_all (λ host. has_ended script (reverse (transcripts host)) host) (host_numbers script)
 
 -- Journals that replay, tied to transcripts of hosts of a script, are those of the play of their merge.
 abbrev pub MergedPlaysAreTied : Type 0

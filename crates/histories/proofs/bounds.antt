@@ -9,4 +9,5 @@ pub mod BoundsStart
 pub mod BoundsTakes
 pub mod BoundsTries
 pub mod Quotas
+pub mod RunQuotas
 pub mod ScriptLemmas

@@ -8,6 +8,7 @@ pub mod Endings
 pub mod Hands
 pub mod History
 pub mod HostLaws
+pub mod HostRuns
 pub mod Ids
 pub mod Leftovers
 pub mod Missing

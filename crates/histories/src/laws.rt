@@ -1,6 +1,7 @@
 //! Laws of histories, each the contract of a function without a body.
 ghost use Rattle.histories.specs.Played.{PlaysAreHistories, HistoriesArePlays};
 ghost use Rattle.histories.specs.HostLaws.{RequestsAreBounded, CausesAreMet};
+ghost use Rattle.histories.specs.HostRuns.{HostRunsKeepQuotas};
 ghost use Rattle.histories.specs.Quotas.{RequestsKeepQuotas, TotalsCoverRequests};
 ghost use Rattle.histories.specs.Endings.{EndingsAreFilled};
 ghost use Rattle.histories.specs.Smallness.{NumbersStaySmall};
@@ -30,6 +31,12 @@ pub fn requests_are_bounded()
 /// together.
 pub fn requests_keep_quotas()
     ensures { RequestsKeepQuotas }
+{}
+
+/// So does each host by itself, whatever it is answered: by its calls alone it asks no bay more often than its quota, makes
+/// no more requests than its jobs may need, and keeps room for what is left of them.
+pub fn host_runs_keep_quotas()
+    ensures { HostRunsKeepQuotas }
 {}
 
 /// A script's total is that of all quotas at all bays, and all allowed attempts of its hosts together ask no more than that.

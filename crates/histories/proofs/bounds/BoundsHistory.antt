@@ -110,7 +110,7 @@ module _ (script : Script) (is : IsPlayable script) where
       pub keeps : KeepsBy script m p (host_most script m host - done) (host_contents script host)
       pub few : done ≤ host_most script m host
 
-    along-start : (host : HostNo) → Along host (at_start script host) 0
+    pub along-start : (host : HostNo) → Along host (at_start script host) 0
     along-start host =
         let all : host_most script m host ≡ host_most script m host - 0 = omega arith in
         record {

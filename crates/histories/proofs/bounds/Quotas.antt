@@ -24,7 +24,7 @@ use Rattle.histories.proofs.bounds.BoundsMeasures.{by_weights}
 use Rattle.histories.proofs.bounds.BoundsHistory.{sums-le, sums-more, counted, if_counted, along-history, callers-listed, requests_are_bounded}
 
 -- the calls at a bay are what its measure counts
-counted-at : (host : HostNo) (bay : BayNo) (history : List Call) → counted (count_at bay) host history ≡ calls_at host bay history
+pub counted-at : (host : HostNo) (bay : BayNo) (history : List Call) → counted (count_at bay) host history ≡ calls_at host bay history
 counted-at host bay [] = refl
 counted-at host bay (call ∷ earlier) = by (call.ask.host.0 == host.0) (counted-at host bay earlier)
   where
