@@ -5,16 +5,13 @@ use Rattle.std.proofs.lemmas.List.{reverse-append, append-nil}
 use Rattle.raid_base.specs.declared.numbers.HostNo.{HostNo}
 use Rattle.raid_base.specs.declared.messages.Call.{Call}
 use Rattle.raid_base.specs.declared.messages.Entry.{Entry}
-use Rattle.raid_base.specs.Replies.{is_fault}
-use Rattle.slot_rules.specs.Slots.{Bay}
-use Rattle.slot_rules.specs.Rules.{rule}
-use Rattle.slot_rules.specs.Replay.{Replays}
 use Rattle.script_text.specs.Script.{Script}
 use Rattle.histories.specs.Progress.{Progress, asks, takes, work_errand}
 use Rattle.histories.specs.HostRuns.{IsHostRun}
 use Rattle.histories.specs.History.{if_taken, progress_at}
 use Rattle.histories.proofs.bounds.BoundsTakes.{sent-errand}
 use Rattle.histories.proofs.bounds.BoundsClocks.{takes-clock}
+use Rattle.clock_merge.specs.Merge.{Ticks}
 use Rattle.clock_merge.proofs.LineLemmas.{same-test, all-weaker}
 
 -- the calls that a host makes from this progress on
@@ -30,12 +27,12 @@ Grows call = call.ask.clock < call.answer.clock
 abbrev pub EntryGrows : Entry → Type 0
 EntryGrows entry = entry.ask.clock < entry.clock
 
--- so it is in a journal that keeps to the slot rule
-pub replays-grow : (bay : Bay) (clock : ℕ) (entries : List Entry) (later : Bay) (end : ℕ) → Replays bay clock entries later end → AllByRecursion EntryGrows entries
-replays-grow bay clock [] later end replays = tt
-replays-grow bay clock (entry ∷ entries) later end replays =
-    let clocks = replays.1 in
-    (omega (arith, clocks), replays-grow (rule bay entry.ask (is_fault entry.reply)).bay entry.clock entries later end replays.2)
+-- so it is in a journal whose clocks tick
+pub ticks-grow : (clock : ℕ) (entries : List Entry) (end : ℕ) → Ticks clock entries end → AllByRecursion EntryGrows entries
+ticks-grow clock [] end ticks = tt
+ticks-grow clock (entry ∷ entries) end ticks =
+    let next = ticks.0 in
+    (omega (arith, next), ticks-grow entry.clock entries end ticks.1)
 
 module _ (script : Script) (host : HostNo) where
   earlier-run : (later earlier : List Call) → IsHostRun script host (later ++ earlier) → IsHostRun script host earlier

@@ -1,5 +1,5 @@
 -- The faults that a history tells are those of its journals.
-use Rattle.std.proofs.Common.{◌≡◌, ℕ, zero, suc, ◌<◌, ◌≤◌, ◌==◌, ◌&&◌, Bool, true, false, if◌then◌else◌, List, [], ◌∷◌, ◌++◌, length, refl, sym, ap, subst, ◌∙◌, arith}
+use Rattle.std.proofs.Common.{◌≡◌, ℕ, zero, suc, ◌<◌, ◌≤◌, ◌==◌, ◌&&◌, Bool, true, false, if◌then◌else◌, List, [], ◌∷◌, ◌++◌, length, Some, refl, sym, ap, subst, ◌∙◌, arith}
 use Rattle.std.specs.Prelude.{nat_lt}
 use Rattle.std.specs.List.{AllByRecursion, slice_get, slice_index_or}
 use Rattle.std.proofs.lemmas.List.{get_or_past}
@@ -11,7 +11,11 @@ use Rattle.raid_base.specs.Replies.{is_fault}
 use Rattle.stripe_layout.specs.Placement.{bay}
 use Rattle.histories.specs.History.{entry_of, journal, faults_in}
 use Rattle.clock_merge.specs.Tied.{has_fault, faults_of}
-use Rattle.clock_merge.proofs.MergeSteps.{seam}
+
+-- a list at the place where another was put behind it
+seam : (before : List Entry) (entry : Entry) (entries : List Entry) → slice_get (before ++ entry ∷ entries) (length before) ≡ Some entry
+seam [] entry entries = refl
+seam (first ∷ before) entry entries = seam before entry entries
 
 -- one more entry at the end
 before-last : (entries : List Entry) (entry : Entry) (place : ℕ) → (length entries ≡ place → ⊥) → slice_get (entries ++ entry ∷ []) place ≡ slice_get entries place

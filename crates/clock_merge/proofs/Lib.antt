@@ -4,6 +4,8 @@ pub mod HostRuns
 pub mod MergeSteps
 pub mod JournalFaults
 pub mod HostsAlone
+pub mod ReplayedBays
+pub mod MergedCalls
 pub mod MergedPlays
 pub mod LineCounts
 pub mod LinesSoFar

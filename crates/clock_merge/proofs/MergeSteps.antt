@@ -1,20 +1,17 @@
--- One turn of the play of a merge: the next line is the next entry of its bay, and the next call of its host.
-use Rattle.std.proofs.Common.{◌≡◌, inl, inr, ℕ, ◌<◌, ◌==◌, Bool, true, false, if◌then◌else◌, List, [], ◌∷◌, ◌++◌, length, Option, Some, refl, sym, ap, subst, ◌∙◌, arith, append_assoc}
-use Rattle.std.specs.List.{AllByRecursion, slice_index_or, slice_get}
+-- One line of a merge: it is the next entry of its bay, and the next call of its host.
+use Rattle.std.proofs.Common.{◌≡◌, inl, inr, ℕ, ◌<◌, ◌==◌, Bool, true, false, if◌then◌else◌, List, [], ◌∷◌, ◌++◌, refl, sym, ap, subst, ◌∙◌, arith, append_assoc}
+use Rattle.std.specs.List.{AllByRecursion, slice_index_or}
 use Rattle.raid_base.specs.declared.numbers.HostNo.{HostNo}
 use Rattle.raid_base.specs.declared.numbers.BayNo.{BayNo}
 use Rattle.raid_base.specs.declared.messages.Call.{Call}
 use Rattle.raid_base.specs.declared.messages.Entry.{Entry}
-use Rattle.raid_base.specs.declared.messages.Reply.{Reply}
-use Rattle.raid_base.specs.Replies.{is_fault}
 use Rattle.stripe_layout.specs.Placement.{bay}
-use Rattle.slot_rules.specs.Slots.{Bay}
-use Rattle.slot_rules.specs.Replay.{next_clock, Replays}
 use Rattle.script_text.specs.Script.{Script}
-use Rattle.histories.specs.Progress.{Progress, Sent}
-use Rattle.histories.specs.History.{if_taken, progress_at, if_ruled, bay_at, clock_at, entry_of, journal, transcript, answered, IsHistory, after_sent, after_turn}
-use Rattle.clock_merge.specs.Merge.{Line, entries_at, IsBefore, RiseFrom, turn_of}
-use Rattle.clock_merge.specs.Tied.{entries_of, calls_at, has_fault, faults_of}
+use Rattle.histories.specs.Progress.{Progress}
+use Rattle.histories.specs.History.{if_taken, progress_at, clock_at, entry_of, journal, transcript}
+use Rattle.histories.specs.Asked.{AreAsked}
+use Rattle.clock_merge.specs.Merge.{Line, entries_at, IsBefore, RiseFrom, Ticks}
+use Rattle.clock_merge.specs.Tied.{entries_of, calls_at, call_of}
 use Rattle.clock_merge.proofs.LineLemmas.{same-bay, same-host, same-test, other-test, same-heads, same-tails, entries-here, host-here, call-here, call-there, all-at, all-of, all-calls, before-all}
 use Rattle.clock_merge.proofs.HostRuns.{RunsOn, Grows, clocks-rise}
 
@@ -22,18 +19,12 @@ use Rattle.clock_merge.proofs.HostRuns.{RunsOn, Grows, clocks-rise}
 abbrev pub line_of : Call → Line
 line_of call = record { bay = call.bay; entry = entry_of call }
 
--- a list at the place where another was put behind it
-pub seam : (before : List Entry) (entry : Entry) (entries : List Entry) → slice_get (before ++ entry ∷ entries) (length before) ≡ Some entry
-seam [] entry entries = refl
-seam (first ∷ before) entry entries = seam before entry entries
-
 module _ (script : Script) (journals : List (List Entry)) (transcripts : HostNo → List Call) where
-  -- what is left of a bay's journal replays from where the bay stands
-  pub record BayLeft (k : ℕ) (before : List Entry) (now : Bay) (clock : ℕ) (entries : List Entry) : Type 0 where
+  -- the clocks of what is left of a bay's journal tick from where the bay stands
+  pub record BayLeft (k : ℕ) (before : List Entry) (clock : ℕ) (entries : List Entry) : Type 0 where
     pub whole : before ++ entries ≡ slice_index_or journals k []
-    pub later : Bay
     pub end : ℕ
-    pub replays : Replays now clock entries later end
+    pub ticks : Ticks clock entries end
 
   -- what is left of a host's transcript goes on from where the host stands, and is tied to the entries that are left
   pub record HostLeft (host : HostNo) (before : List Call) (p : Progress) (entries : ℕ → List Entry) (left : List Call) : Type 0 where
@@ -43,14 +34,14 @@ module _ (script : Script) (journals : List (List Entry)) (transcripts : HostNo 
     pub grows : AllByRecursion Grows left
 
   abbrev pub BayStands : ℕ → List Call → List Line → Type 0
-  BayStands k history lines = BayLeft k (journal (bay k) history) (bay_at script (bay k) history) (clock_at (bay k) history) (entries_at (bay k) lines)
+  BayStands k history lines = BayLeft k (journal (bay k) history) (clock_at (bay k) history) (entries_at (bay k) lines)
 
   abbrev pub HostStands : HostNo → List Call → List Line → List Call → Type 0
   HostStands host history lines left = HostLeft host (transcript host history) (progress_at script host history) (λ k. entries_at (bay k) lines) left
 
-  -- where a play stands before these lines
+  -- where calls stand before these lines
   pub record Along (history : List Call) (lines : List Line) : Type 0 where
-    pub is : IsHistory script history
+    pub is : AreAsked script history
     pub bays : (k : ℕ) → k < script.n → BayStands k history lines
     pub hosts : (host : HostNo) → (left : List Call) × HostStands host history lines left
 
@@ -113,52 +104,25 @@ module _ (script : Script) (journals : List (List Entry)) (transcripts : HostNo 
           }
       by false e = absurd (never-other call rest stands e)
 
-  -- The turn
+  -- Its answer
   module _ (history : List Call) (call : Call) (rest : List Call) (lines : List Line) (along : Along history (line_of call ∷ lines))
       (own : HostStands call.ask.host history (line_of call ∷ lines) (call ∷ rest)) (inside : call.bay.0 < script.n) where
     there : BayStands call.bay.0 history (line_of call ∷ lines)
     there = along.bays call.bay.0 inside
 
-    replayed : Replays (bay_at script call.bay history) (clock_at call.bay history) (entry_of call ∷ entries_at call.bay lines) there.later there.end
-    replayed =
-        subst (λ (es : List Entry). Replays (bay_at script call.bay history) (clock_at call.bay history) es there.later there.end)
-        (entries-here call.bay (line_of call) lines (same-test call.bay.0)) there.replays
-
-    sent : Sent
-    sent = record { bay = call.bay; ask = call.ask }
-
-    replied : call ≡ answered script history (record { bay = call.bay; ask = call.ask }) (is_fault call.answer.reply)
-    replied =
-        ap (λ (clock : ℕ). record { bay = call.bay; ask = call.ask; answer = record { clock = clock; reply = call.answer.reply } }) replayed.1
-        ∙ ap (λ (reply : Reply). record { bay = call.bay; ask = call.ask; answer = record { clock = next_clock (clock_at call.bay history) call.ask; reply = reply } }) replayed.0
-
-    fault : faults_of journals call.bay (length (journal call.bay history)) ≡ is_fault call.answer.reply
-    fault =
-        let whole : journal call.bay history ++ entry_of call ∷ entries_at call.bay lines ≡ slice_index_or journals call.bay.0 [] =
-        ap (λ (es : List Entry). journal call.bay history ++ es) (sym (entries-here call.bay (line_of call) lines (same-test call.bay.0))) ∙ there.whole in
-        ap (λ (es : List Entry). has_fault (slice_get es (length (journal call.bay history)))) (sym whole)
-        ∙ ap has_fault (seam (journal call.bay history) (entry_of call) (entries_at call.bay lines))
-
-    pub turned : after_turn script (faults_of journals) history (turn_of (line_of call)) ≡ call ∷ history
-    turned =
-        ap (λ (o : Option Sent). after_sent script (faults_of journals) history o) own.runs.2
-        ∙ ap (λ (fails : Bool). answered script history (record { bay = call.bay; ask = call.ask }) fails ∷ history) fault
-        ∙ ap (λ (c : Call). c ∷ history) (sym replied)
-
-    pub told : call ≡ answered script history (record { bay = call.bay; ask = call.ask }) (faults_of journals call.bay (length (journal call.bay history)))
-    told = replied ∙ ap (λ (fails : Bool). answered script history (record { bay = call.bay; ask = call.ask }) fails) (sym fault)
+    ticked : Ticks (clock_at call.bay history) (entry_of call ∷ entries_at call.bay lines) there.end
+    ticked = subst (λ (es : List Entry). Ticks (clock_at call.bay history) es there.end) (entries-here call.bay (line_of call) lines (same-test call.bay.0)) there.ticks
 
     -- each bay
     bay-stands : (k : ℕ) → k < script.n → BayStands k (call ∷ history) lines
     bay-stands k below = by (call.bay.0 == k) (along.bays k below) where
-      by : (b : Bool) → BayLeft k (journal (bay k) history) (bay_at script (bay k) history) (clock_at (bay k) history) (if b then entry_of call ∷ entries_at (bay k) lines else entries_at (bay k) lines) →
-          BayLeft k (if b then journal (bay k) history ++ entry_of call ∷ [] else journal (bay k) history) (if_ruled (bay_at script (bay k) history) call b)
+      by : (b : Bool) → BayLeft k (journal (bay k) history) (clock_at (bay k) history) (if b then entry_of call ∷ entries_at (bay k) lines else entries_at (bay k) lines) →
+          BayLeft k (if b then journal (bay k) history ++ entry_of call ∷ [] else journal (bay k) history)
           (if b then call.answer.clock else clock_at (bay k) history) (entries_at (bay k) lines)
       by true old = record {
         whole = append_assoc (journal (bay k) history) (entry_of call ∷ []) (entries_at (bay k) lines) ∙ old.whole;
-        later = old.later;
         end = old.end;
-        replays = old.replays.2;
+        ticks = old.ticks.1;
       }
       by false old = old
 
@@ -201,30 +165,15 @@ module _ (script : Script) (journals : List (List Entry)) (transcripts : HostNo 
           )
 
     pub along-call : Along (call ∷ history) lines
-    along-call = record { is = (along.is, record { asked = own.runs.2; replied = replied }); bays = bay-stands; hosts = host-stands }
+    along-call = record { is = (along.is, record { asked = own.runs.2; clocked = ticked.0 }); bays = bay-stands; hosts = host-stands }
 
-  -- one turn of the play: the merge's next line is answered
-  pub record IsTurned (history : List Call) (line : Line) (lines : List Line) (now : List Call) : Type 0 where
-    pub call : Call
-    pub is : now ≡ call ∷ history
-    pub same : line_of call ≡ line
-    pub told : call ≡ answered script history (record { bay = call.bay; ask = call.ask }) (faults_of journals call.bay (length (journal call.bay history)))
-    pub along : Along (call ∷ history) lines
-
-  pub turned-along : (history : List Call) (line : Line) (lines : List Line) → RiseFrom line lines → line.bay.0 < script.n → Along history (line ∷ lines) →
-      IsTurned history line lines (after_turn script (faults_of journals) history (turn_of line))
-  turned-along history line lines rise inside along =
+  -- the next line is answered
+  pub along-line : (history : List Call) (line : Line) (lines : List Line) → RiseFrom line lines → line.bay.0 < script.n → Along history (line ∷ lines) → Along (call_of line ∷ history) lines
+  along-line history line lines rise inside along =
       let found = along.hosts line.entry.ask.host in
       let next = next-call history line lines rise inside found.0 found.1 in
       let own : HostStands line.entry.ask.host history (line ∷ lines) (next.call ∷ next.rest) =
       subst (λ (left : List Call). HostStands line.entry.ask.host history (line ∷ lines) left) next.is found.1 in
-      subst (λ (l : Line). Along history (l ∷ lines) → HostStands l.entry.ask.host history (l ∷ lines) (next.call ∷ next.rest) → l.bay.0 < script.n →
-      IsTurned history l lines (after_turn script (faults_of journals) history (turn_of l))) next.same
-      (λ a h i. record {
-        call = next.call;
-        is = turned history next.call next.rest lines a h i;
-        same = refl;
-        told = told history next.call next.rest lines a h i;
-        along = along-call history next.call next.rest lines a h i;
-      })
+      subst (λ (l : Line). Along history (l ∷ lines) → HostStands l.entry.ask.host history (l ∷ lines) (next.call ∷ next.rest) → l.bay.0 < script.n → Along (call_of l ∷ history) lines) next.same
+      (λ a h i. along-call history next.call next.rest lines a h i)
       along own inside

@@ -5,6 +5,7 @@ use Rattle.raid_base.specs.declared.numbers.BayNo.{BayNo}
 use Rattle.raid_base.specs.declared.messages.Entry.{Entry}
 use Rattle.raid_base.specs.declared.messages.Turn.{Turn}
 use Rattle.stripe_layout.specs.Placement.{bay}
+use Rattle.slot_rules.specs.Replay.{next_clock}
 
 -- a line of a journal, with its bay
 pub record Line : Type 0 where
@@ -47,3 +48,8 @@ ClocksRiseFrom first (entry ∷ entries) = (first.clock < entry.clock) × Clocks
 abbrev pub ClocksRise : List Entry → Type 0
 ClocksRise [] = Unit {0}
 ClocksRise (entry ∷ entries) = ClocksRiseFrom entry entries
+
+-- from this clock on each entry's is one above the greater of the bay's and its ask's, up to that one
+abbrev pub Ticks : ℕ → List Entry → ℕ → Type 0
+Ticks clock [] end = clock ≡ end
+Ticks clock (entry ∷ entries) end = (entry.clock ≡ next_clock clock entry.ask) × Ticks entry.clock entries end

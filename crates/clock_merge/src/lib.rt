@@ -6,5 +6,7 @@ mod merging;
 #[cfg(test)]
 mod tests;
 
-pub use laws::{journals_rise, merged_plays_are_tied, merges_are_unique};
+pub use laws::{
+    journals_rise, merged_calls_are_tied, merged_plays_are_tied, merges_are_unique, ticks_rise,
+};
 pub use merging::{Turns, merge};

@@ -2,7 +2,9 @@
 ghost use Rattle.std.specs.Prelude.{◌≡◌, ◌+◌, ◌<◌, ◌^◌, length, IfOk};
 ghost use Rattle.clock_merge.specs.Merge.{ClocksRise};
 
-use crate::laws::{journals_rise, merged_plays_are_tied, merges_are_unique};
+use crate::laws::{
+    journals_rise, merged_calls_are_tied, merged_plays_are_tied, merges_are_unique, ticks_rise,
+};
 use crate::merging::{Turns, merge};
 use raid_base::{Ask, Entry, HostNo, Reply, Request, Turn};
 use std::alloc::Global;
@@ -128,6 +130,8 @@ fn empty_journals_have_no_turns(rt: HostRuntime) -> Result<(), Fail> {
 #[test]
 fn laws_are_called() {
     journals_rise();
+    ticks_rise();
+    merged_calls_are_tied();
     merged_plays_are_tied();
     merges_are_unique();
 }
