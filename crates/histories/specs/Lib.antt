@@ -19,6 +19,7 @@ pub mod Progress
 pub mod Quotas
 pub mod Results
 pub mod RowStates
+pub mod Simulated
 pub mod Smallness
 pub mod Stored
 pub mod Torn

@@ -1,5 +1,6 @@
 //! Laws of histories, each the contract of a function without a body.
 ghost use Rattle.histories.specs.Played.{PlaysAreHistories, HistoriesArePlays};
+ghost use Rattle.histories.specs.Simulated.{TurnLinesAreFree, EndedAreSimulated};
 ghost use Rattle.histories.specs.HostLaws.{RequestsAreBounded, CausesAreMet};
 ghost use Rattle.histories.specs.HostRuns.{HostRunsKeepQuotas};
 ghost use Rattle.histories.specs.Quotas.{RequestsKeepQuotas, TotalsCoverRequests};
@@ -19,6 +20,13 @@ pub fn plays_are_histories()
 /// Every history is the play of its own turns with the faults that it tells.
 pub fn histories_are_plays()
     ensures { HistoriesArePlays }
+{}
+
+/// Where hosts and bays stand after some calls does not hang on the turn lines of the script. So a history at whose end all
+/// hosts have ended is the simulator's, for the script that has the turns of that history as its turn lines.
+pub fn histories_are_simulated()
+    ensures turns { TurnLinesAreFree }
+    ensures simulated { EndedAreSimulated }
 {}
 
 /// Along every history of a script each host has requests enough for what it has left to do: only hosts of the script
