@@ -4,3 +4,4 @@ pub mod Plays
 pub mod Rows
 pub mod Gathering
 pub mod Reported
+pub mod Parts

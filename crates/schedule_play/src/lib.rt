@@ -4,6 +4,7 @@
 pub mod closing;
 pub mod gathering;
 pub mod making;
+pub mod parting;
 mod playing;
 pub mod results;
 pub mod rows;
@@ -12,5 +13,6 @@ pub mod world;
 pub use closing::Closed;
 pub use gathering::Gathered;
 pub use making::WorldFault;
+pub use parting::Parts;
 pub use results::{collect_contents, collect_results};
 pub use world::World;
