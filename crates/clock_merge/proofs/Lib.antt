@@ -9,4 +9,5 @@ pub mod MergedCalls
 pub mod MergedPlays
 pub mod LineCounts
 pub mod LinesSoFar
+pub mod Slices
 pub mod JournalsRise

@@ -1,5 +1,6 @@
 -- A merge on its way: the lines so far, and the places that they have come to in the journals.
-use Rattle.std.proofs.Common.{Vec, Global, ◌≡◌, ◌≢◌, ◌⊎◌, inl, inr, ℕ, zero, suc, ◌+◌, ◌^◌, ◌<◌, ◌≤◌, ◌==◌, Bool, true, false, if◌then◌else◌, List, [], ◌∷◌, ◌++◌, length, map, take, get_or, set, replicate, sum_by, Option, Some, None, refl, sym, ap, subst, ◌∙◌, arith, append_assoc, length-append}
+use Rattle.std.proofs.Common.{◌≡◌, ◌≢◌, ◌⊎◌, inl, inr, ℕ, zero, suc, ◌+◌, ◌^◌, ◌<◌, ◌≤◌, ◌==◌, Bool, true, false, if◌then◌else◌, List, [], ◌∷◌, ◌++◌, length, map, take, get_or, set, replicate, sum_by, Option, Some, None, refl, sym, ap, subst, ◌∙◌, arith, append_assoc, length-append}
+use Rattle.std.specs.Borrow.{Bor}
 use Rattle.std.specs.List.{AllByRecursion, slice_index_or, slice_get}
 use Rattle.std.proofs.lemmas.List.{map-append, append-nil, length-map, length-take, get_or-map, get_or-set_same, get_or-set_other}
 use Rattle.std.proofs.lemmas.Bool.Decides.{nat_tests}
@@ -8,7 +9,7 @@ use Rattle.raid_base.specs.declared.messages.Entry.{Entry}
 use Rattle.raid_base.specs.declared.messages.Turn.{Turn}
 use Rattle.stripe_layout.specs.Placement.{bay}
 use Rattle.clock_merge.specs.Merge.{Line, entries_at, IsBefore, RiseFrom, Rise, turn_of, ClocksRiseFrom, ClocksRise}
-use Rattle.clock_merge.specs.Heads.{line_at, heads_at, IsFirst, IsFirstAt}
+use Rattle.clock_merge.specs.Heads.{line_at, heads_at, entries_in, AreShort, IsFirst, IsFirstAt}
 use Rattle.clock_merge.specs.Turns.{AppendsMerge}
 use Rattle.clock_merge.proofs.LineLemmas.{all-weaker, before-before}
 use Rattle.clock_merge.proofs.LineCounts.{lines-few}
@@ -192,15 +193,16 @@ module _ (journals : List (List Entry)) (places : List ℕ) (before after : List
       let more : length next-lines ≡ length m.lines + 1 = length-append m.lines (next-line ∷ []) in
       omega (arith, few, more, turns, length-append before (map turn_of m.lines), length-map m.lines turn_of)
 
--- the lists that journals hold
-abbrev pub lists : List (Vec Entry Global) → List (List Entry)
-lists journals = map (λ (journal : Vec Entry Global). journal.items) journals
+-- a bound of each list
+short-at : (journals : List (List Entry)) (k : ℕ) → AreShort journals → length (slice_index_or journals k []) < 2 ^ 63
+short-at [] k all = omega arith
+short-at (journal ∷ journals) zero all = all.0
+short-at (journal ∷ journals) (suc k) all = short-at journals k all.1
 
-pub head-is : (journals : List (Vec Entry Global)) (places : List ℕ) (k : ℕ) (journal : Vec Entry Global) (head : Option Entry) → k < length journals → journal ≡ get_or journals k journal →
-    head ≡ slice_get journal.items (get_or places k 0) → heads_at (lists journals) places k ≡ head
-head-is journals places k journal head below same is =
-    let list : get_or (lists journals) k [] ≡ journal.items =
-    get_or-map (λ (j : Vec Entry Global). j.items) journals k journal [] below ∙ ap (λ (j : Vec Entry Global). j.items) (sym same) in
+pub head-is : (journals : List (Bor (List Entry))) (places : List ℕ) (k : ℕ) (d : Bor (List Entry)) (head : Option Entry) → k < length journals →
+    head ≡ slice_get (get_or journals k d).now (get_or places k 0) → heads_at (entries_in journals) places k ≡ head
+head-is journals places k d head below is =
+    let list : get_or (entries_in journals) k [] ≡ (get_or journals k d).now = get_or-map (λ (j : Bor (List Entry)). j.now) journals k d [] below in
     ap (λ (es : List Entry). slice_get es (get_or places k 0)) list ∙ sym is
 
 -- a head is inside its journal
@@ -209,10 +211,8 @@ inside [] place entry is = absurd (cc)
 inside (e ∷ es) zero entry is = omega arith
 inside (e ∷ es) (suc place) entry is = omega (arith, inside es place entry is)
 
-place-inside : (journals : List (Vec Entry Global)) (at place : ℕ) (entry : Entry) → slice_get (slice_index_or (lists journals) at []) place ≡ Some entry → place < 2 ^ 63
-place-inside [] at place entry is = absurd (cc)
-place-inside (journal ∷ journals) zero place entry is = omega (arith, inside journal.items place entry is, journal.ok.0, journal.ok.1, journal.small)
-place-inside (journal ∷ journals) (suc at) place entry is = place-inside journals at place entry is
+place-inside : (journals : List (List Entry)) (at place : ℕ) (entry : Entry) → AreShort journals → slice_get (slice_index_or journals at []) place ≡ Some entry → place < 2 ^ 63
+place-inside journals at place entry short is = omega (arith, inside (slice_index_or journals at []) place entry is, short-at journals at short)
 
 -- no place has been come to at the start
 pub zeros : (n k : ℕ) → let none : ℕ = 0 in get_or (replicate n none) k none ≡ none
@@ -221,30 +221,30 @@ zeros (suc n) zero = refl
 zeros (suc n) (suc k) = zeros n k
 
 -- A round of the merge
-module _ (journals : List (Vec Entry Global)) (places : List ℕ) (before after : List Turn) (m : Merging (lists journals) places before after) (at : ℕ) (entry : Entry)
-    (head : IsFirstAt (heads_at (lists journals) places) (length journals) at entry) (few : length journals ≤ 16) (long : length places ≡ 16) where
-  as-lists : length journals ≡ length (lists journals)
-  as-lists = sym (length-map journals (λ (journal : Vec Entry Global). journal.items))
+module _ (journals : List (Bor (List Entry))) (places : List ℕ) (before after : List Turn) (m : Merging (entries_in journals) places before after) (at : ℕ) (entry : Entry)
+    (head : IsFirstAt (heads_at (entries_in journals) places) (length journals) at entry) (few : length journals ≤ 16) (long : length places ≡ 16) where
+  as-lists : length journals ≡ length (entries_in journals)
+  as-lists = sym (length-map journals (λ (journal : Bor (List Entry)). journal.now))
 
-  first-list : IsFirstAt (heads_at (lists journals) places) (length (lists journals)) at entry
-  first-list = subst (λ (n : ℕ). IsFirstAt (heads_at (lists journals) places) n at entry) as-lists head
+  first-list : IsFirstAt (heads_at (entries_in journals) places) (length (entries_in journals)) at entry
+  first-list = subst (λ (n : ℕ). IsFirstAt (heads_at (entries_in journals) places) n at entry) as-lists head
 
-  enough : length (lists journals) ≤ length places
+  enough : length (entries_in journals) ≤ length places
   enough = omega (arith, as-lists, few, long)
 
-  pub round-next : AllByRecursion ClocksRise (lists journals) →
-      Merging (lists journals) (set places at (get_or places at 0 + 1)) before (after ++ record { host = entry.ask.host; moment = entry.ask.moment } ∷ [])
-  round-next = merging-next (lists journals) places before after m at entry first-list enough
+  pub round-next : AllByRecursion ClocksRise (entries_in journals) →
+      Merging (entries_in journals) (set places at (get_or places at 0 + 1)) before (after ++ record { host = entry.ask.host; moment = entry.ask.moment } ∷ [])
+  round-next = merging-next (entries_in journals) places before after m at entry first-list enough
 
-  pub round-room : length after + 1 ≤ length before + sum_by (λ (es : List Entry). length es) (lists journals)
-  round-room = merging-room (lists journals) places before after m at entry first-list enough
+  pub round-room : length after + 1 ≤ length before + sum_by (λ (es : List Entry). length es) (entries_in journals)
+  round-room = merging-room (entries_in journals) places before after m at entry first-list enough
 
-  pub round-fits : get_or places at 0 + 1 < 2 ^ 64
-  round-fits = omega (arith, place-inside journals at (get_or places at 0) entry head.is)
+  pub round-fits : AreShort (entries_in journals) → get_or places at 0 + 1 < 2 ^ 64
+  round-fits short = omega (arith, place-inside (entries_in journals) at (get_or places at 0) entry short head.is)
 
 -- the last round
-pub round-end : (journals : List (Vec Entry Global)) (places : List ℕ) (before after : List Turn) → Merging (lists journals) places before after →
-    IsFirst (heads_at (lists journals) places) (length journals) None → AppendsMerge (lists journals) before after
+pub round-end : (journals : List (Bor (List Entry))) (places : List ℕ) (before after : List Turn) → Merging (entries_in journals) places before after →
+    IsFirst (heads_at (entries_in journals) places) (length journals) None → AppendsMerge (entries_in journals) before after
 round-end journals places before after m none =
-    merging-end (lists journals) places before after m
-    (subst (λ (n : ℕ). IsFirst (heads_at (lists journals) places) n None) (sym (length-map journals (λ (journal : Vec Entry Global). journal.items))) none)
+    merging-end (entries_in journals) places before after m
+    (subst (λ (n : ℕ). IsFirst (heads_at (entries_in journals) places) n None) (sym (length-map journals (λ (journal : Bor (List Entry)). journal.now))) none)

@@ -9,4 +9,4 @@ mod tests;
 pub use laws::{
     journals_rise, merged_calls_are_tied, merged_plays_are_tied, merges_are_unique, ticks_rise,
 };
-pub use merging::{Turns, merge};
+pub use merging::{Turns, merge, merge_slices};

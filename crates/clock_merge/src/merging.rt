@@ -2,9 +2,10 @@
 ghost use Rattle.std.specs.Prelude.{◌≡◌, ◌+◌, ◌<◌, ◌≤◌, ◌++◌, ◌∷◌, [], Option, length, map, sum_by, slice_get, IfOk};
 ghost use Rattle.std.specs.List.{AllByRecursion};
 ghost use Rattle.clock_merge.specs.Merge.{ClocksRise};
-ghost use Rattle.clock_merge.specs.Heads.{heads_at, IsFirst, GoesFirst};
+ghost use Rattle.clock_merge.specs.Heads.{heads_at, entries_in, AreShort, IsFirst, GoesFirst};
 ghost use Rattle.clock_merge.specs.Turns.{AppendsMerge};
 
+use arrayvec::ArrayVec;
 use raid_base::{Entry, NoMemory, Turn};
 use std::alloc::Global;
 use std::marker::Model;
@@ -71,16 +72,16 @@ fn earlier(
 }
 
 /// The entry at this place of a journal, none at its end.
-fn head(journal: &Vec<Entry>, place: usize) -> Option<Entry>
-    ensures { result ≡ slice_get journal.now.items place }
+fn head(journal: &[Entry], place: usize) -> Option<Entry>
+    ensures { result ≡ slice_get journal.now place }
 {
-    journal.as_slice().get(place).copied()
+    journal.get(place).copied()
 }
 
 /// The first of the entries at these places by its clock, and by its bay where clocks are the same, with its bay.
-fn first_head(journals: &[Vec<Entry>], places: &[usize; 16]) -> Option<(usize, Entry)>
+fn first_head(journals: &[&[Entry]], places: &[usize; 16]) -> Option<(usize, Entry)>
     requires { length journals.now ≤ 16 }
-    ensures { IsFirst (heads_at (map (λ journal. journal.items) journals.now) places.now) (length journals.now) result }
+    ensures { IsFirst (heads_at (entries_in journals.now) places.now) (length journals.now) result }
 {
     let mut first = None;
     for (bay, journal) in journals.iter().enumerate() {
@@ -91,11 +92,12 @@ fn first_head(journals: &[Vec<Entry>], places: &[usize; 16]) -> Option<(usize, E
 
 /// Appends the turns of all entries of these journals, in the order of their clocks, and of their bays where clocks are
 /// the same.
-pub fn merge(turns: &mut Turns, journals: &[Vec<Entry>])
+pub fn merge_slices(turns: &mut Turns, journals: &[&[Entry]])
     requires few { length journals.now ≤ 16 }
-    requires rising { AllByRecursion ClocksRise (map (λ journal. journal.items) journals.now) }
-    requires room { sum_by length (map (λ journal. journal.items) journals.now) + length turns.old.items ≤ turns.old.room }
-    ensures merged { AppendsMerge (map (λ journal. journal.items) journals.now) turns.old.items turns.new.items }
+    requires short { AreShort (entries_in journals.now) }
+    requires rising { AllByRecursion ClocksRise (entries_in journals.now) }
+    requires room { sum_by length (entries_in journals.now) + length turns.old.items ≤ turns.old.room }
+    ensures merged { AppendsMerge (entries_in journals.now) turns.old.items turns.new.items }
     ensures room { turns.new.room ≡ turns.old.room }
 {
     let mut places = [0; 16];
@@ -106,4 +108,19 @@ pub fn merge(turns: &mut Turns, journals: &[Vec<Entry>])
         });
         places[bay] += 1;
     }
+}
+
+/// Appends the turns of all entries of these journals, as `merge_slices` does.
+pub fn merge(turns: &mut Turns, journals: &[Vec<Entry>])
+    requires few { length journals.now ≤ 16 }
+    requires rising { AllByRecursion ClocksRise (map (λ journal. journal.items) journals.now) }
+    requires room { sum_by length (map (λ journal. journal.items) journals.now) + length turns.old.items ≤ turns.old.room }
+    ensures merged { AppendsMerge (map (λ journal. journal.items) journals.now) turns.old.items turns.new.items }
+    ensures room { turns.new.room ≡ turns.old.room }
+{
+    let mut slices: ArrayVec<&[Entry], 16> = ArrayVec::new();
+    for journal in journals {
+        slices.push(journal.as_slice());
+    }
+    merge_slices(turns, slices.as_slice());
 }

@@ -1,52 +1,21 @@
-use Rattle.std.proofs.Common.{◌≡◌, ◌≤◌, ◌<◌, ◌+◌, ◌-◌, ◌^◌, ◌∷◌, List, [], get_or, set, length, sum_by, refl, sym, ap, subst, ◌∙◌, arith, length-append, length-set}
+use Rattle.std.proofs.lemmas.List.{length-map, take_all}
+use Rattle.std.proofs.Common.{Vec, Global, length, arith, ◌≡◌, ◌∙◌, ap, subst, sym, List}
+use Rattle.std.specs.Borrow.{Bor}
 use Rattle.raid_base.specs.declared.messages.Entry.{Entry}
-use Rattle.raid_base.specs.declared.messages.Turn.{Turn}
-use Rattle.clock_merge.proofs.LinesSoFar.{Merging, lists, zeros, merging-start, round-next, round-room, round-fits, round-end}
+use Rattle.clock_merge.specs.Heads.{entries_in, AreShort}
+use Rattle.clock_merge.proofs.Slices.{lists, lists-short, slice-on}
 use Rattle.clock_merge.proofs.merging.merge.Goals as goal
 
-pub lines-init : goal.lines-init
-lines-init c = record { merging = merging-start (lists c.args.journals.now) _ c.args.turns.now.items (zeros 16); room = refl; long = refl }
+pub loop-journal-preserved : goal.loop-journal-preserved
+loop-journal-preserved c =
+    ap (λ (slices : List (Bor (List Entry))). entries_in slices) c.push.ensures.items
+    ∙ slice-on c.args.journals.now c.loop-journal.journal-index c.journal-item.result c.loop-journal.slices.items c.as_slice.result c.loop-journal-test.true c.loop-journal.invariant
+    (c.as_slice.ensures.value ∙ ap (λ (j : _). j.items) c.journal-item.is)
 
-pub push-requires : goal.push-requires
-push-requires c =
-    let m = c.lines.invariant.merging in
-    let more = round-room c.args.journals.now c.lines.places c.args.turns.now.items c.lines.turns.items m c.in-Some.bay c.in-Some.entry c.in-Some.ensures c.requires.few c.lines.invariant.long in
-    let room : sum_by (λ (es : List Entry). length es) (lists c.args.journals.now) + length c.args.turns.now.items ≤ c.args.turns.now.room = c.requires.room in
-    let same : c.lines.turns.room ≡ c.args.turns.now.room = c.lines.invariant.room in
-    omega (arith, more, room, same)
-
-pub overflow_add-places : goal.overflow_add-places
-overflow_add-places c =
-    let m = c.lines.invariant.merging in
-    let fits : get_or c.lines.places c.in-Some.bay 0 + 1 < 2 ^ 64 =
-    round-fits c.args.journals.now c.lines.places c.args.turns.now.items c.lines.turns.items m c.in-Some.bay c.in-Some.entry c.in-Some.ensures c.requires.few c.lines.invariant.long in
-    omega (arith, fits)
-
-pub lines-smaller : goal.lines-smaller
-lines-smaller c =
-    let m = c.lines.invariant.merging in
-    let more = round-room c.args.journals.now c.lines.places c.args.turns.now.items c.lines.turns.items m c.in-Some.bay c.in-Some.entry c.in-Some.ensures c.requires.few c.lines.invariant.long in
-    let room : sum_by (λ (es : List Entry). length es) (lists c.args.journals.now) + length c.args.turns.now.items ≤ c.args.turns.now.room = c.requires.room in
-    let same : c.lines.turns.room ≡ c.args.turns.now.room = c.lines.invariant.room in
-    let kept : c.push.new.self.room ≡ c.lines.turns.room = c.push.ensures.room in
-    let turn : Turn = record { host = c.in-Some.entry.ask.host; moment = c.in-Some.entry.ask.moment } in
-    let longer : length c.push.new.self.items ≡ length c.lines.turns.items + 1 =
-    ap (λ (turns : List Turn). length turns) c.push.ensures.items ∙ length-append c.lines.turns.items (turn ∷ []) in
-    let less : c.push.new.self.room - length c.push.new.self.items < c.lines.turns.room - length c.lines.turns.items = omega (arith, more, room, same, kept, longer) in
-    less
-
-pub lines-preserved : goal.lines-preserved
-lines-preserved c =
-    let m = c.lines.invariant.merging in
-    let next = round-next c.args.journals.now c.lines.places c.args.turns.now.items c.lines.turns.items m c.in-Some.bay c.in-Some.entry c.in-Some.ensures c.requires.few c.lines.invariant.long
-    c.requires.rising in
-    record {
-      merging = subst (λ (turns : List Turn). Merging (lists c.args.journals.now) (set c.lines.places c.in-Some.bay (get_or c.lines.places c.in-Some.bay 0 + 1)) c.args.turns.now.items turns)
-          (sym c.push.ensures.items) next;
-      room = c.push.ensures.room ∙ c.lines.invariant.room;
-      long = length-set c.lines.places c.in-Some.bay (get_or c.lines.places c.in-Some.bay 0 + 1) ∙ c.lines.invariant.long;
-    }
-
-pub returns-clause-merged : goal.returns-clause-merged
-returns-clause-merged c =
-    round-end c.args.journals.now c.lines.places c.args.turns.now.items c.lines.turns.items c.lines.invariant.merging c.in_default.ensures
+pub merge_slices-requires-clause-short : goal.merge_slices-requires-clause-short
+merge_slices-requires-clause-short c =
+    let many : length (lists c.args.journals.now) ≡ length c.args.journals.now = length-map c.args.journals.now (λ (j : Vec Entry Global). j.items) in
+    let here : entries_in c.as_slice-2.result.now ≡ lists c.args.journals.now =
+    ap (λ (slices : List (Bor (List Entry))). entries_in slices) c.as_slice-2.ensures.value ∙ c.loop-journal.invariant
+    ∙ take_all c.loop-journal.journal-index (lists c.args.journals.now) (omega (arith, many, c.loop-journal-test.false)) in
+    subst AreShort (sym here) (lists-short c.args.journals.now)
