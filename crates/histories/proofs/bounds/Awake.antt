@@ -222,10 +222,10 @@ module _ (script : Script) (is : IsScript script) (host : HostNo) where
   told-awake p call requests contents keeps (Fitting bay) e k = ended-awake _ keeps.aims _ []
   told-awake p call requests contents keeps Over e k = subst IsAwake (sym e) tt
 
-  takes-awake : (p : Progress) (call : Call) (requests contents : ℕ) → Keeps script p requests contents → IsAwake (takes script host p call).work
+  pub takes-awake : (p : Progress) (call : Call) (requests contents : ℕ) → Keeps script p requests contents → IsAwake (takes script host p call).work
   takes-awake p call requests contents keeps = told-awake p call requests contents keeps p.work refl keeps.work
 
-  start-awake : IsAwake (at_start script host).work
+  pub start-awake : IsAwake (at_start script host).work
   unfolding AreAimed
   start-awake = jobs-awake (jobs_of script host) (script-aims script host is) (before_start script host)
 
