@@ -1,0 +1,3 @@
+mod Running
+mod RunLemmas
+mod WorkerLemmas

@@ -1,0 +1,91 @@
+//! Workers: a host with its pass each.
+ghost use Rattle.std.specs.Prelude.{◌≡◌, ◌<◌, ◌^◌, ◌-◌, ℕ, min, IsTrue};
+ghost use Rattle.raid_base.specs.declared.numbers.HostNo.{HostNo};
+ghost use Rattle.script_text.specs.Script.{Script};
+ghost use Rattle.host_workers.specs.Workers.{IsRackFor, IsAtStart, IsAlong, MayStart, MayGoOn, MayRun, AreReady, HasTurned, HasRun, HaveRun};
+
+use block_store::Store;
+use host_engine::Host;
+use rack_turns::{Gate, Pass, Rack};
+use std::sync::Wait;
+use std::thread;
+use std::thread::Threads;
+
+/// The greatest moment of a request.
+const LAST_MOMENT: u64 = (1 << 40) - 1;
+
+/// Tells moments. Nothing is promised of them.
+pub trait Clock {
+    fn now(&self) -> u64;
+}
+
+/// One host, and the pass with which it asks.
+#[derive(Drop)]
+pub struct Worker<'s> {
+    pub host: Host<'s>,
+    pub pass: Pass,
+}
+
+/// A moment that a request may have: this one, or the greatest where it is beyond that.
+fn cut(moment: u64) -> u64
+    ensures { result ≡ min moment (2 ^ 40 - 1) }
+{
+    moment.min(LAST_MOMENT)
+}
+
+/// One request of a host, and its answer. False where the host has ended, and then nothing changes.
+fn turn<D: Store, G: Gate, R: Wait>(
+    rt: &R,
+    rack: &Rack<D>,
+    worker: &mut Worker,
+    moment: u64,
+    gate: &G,
+) -> bool
+    requires ready { MayGoOn rack.now worker.old }
+    requires moment { moment < 2 ^ 40 }
+    ensures { (script : Script) (host : HostNo) → IsRackFor script rack.now → IsAlong script rack.now host worker.old → HasTurned script rack.now host worker.old worker.new result }
+{
+    let (bay, ask) = match worker.host.next(moment) {
+        Some(sent) => sent,
+        None => return false,
+    };
+    let answer = rack.ask(rt, &mut worker.pass, bay, &ask, gate);
+    worker.host.heard(moment, bay, &ask, &answer);
+    true
+}
+
+/// All requests of a host, one after another, until it has ended.
+fn run_host<D: Store, C: Clock, G: Gate, R: Wait>(
+    rt: &R,
+    rack: &Rack<D>,
+    worker: &mut Worker,
+    clock: &C,
+    gate: &G,
+)
+    requires { MayStart rack.now worker.old }
+    ensures { (script : Script) → IsRackFor script rack.now → IsAtStart script rack.now worker.old → HasRun script rack.now worker.old worker.new }
+{
+    while turn(rt, rack, worker, cut(clock.now()), gate) {}
+}
+
+/// Runs each worker's host to its end, in as many threads as there are workers where the runtime gives them. What no thread
+/// takes the caller runs itself.
+///
+/// Afterwards what each pass has asked is what its host's transcript has, call by call.
+pub fn run_hosts<D, C, G, R>(rt: &R, rack: &Rack<D>, workers: &mut [Worker], clock: &C, gate: &G)
+where
+    D: Store + Send + Sync,
+    C: Clock + Sync,
+    G: Gate + Sync,
+    R: Threads + Wait + Sync,
+    requires ready { AreReady rack.now workers.old }
+    ensures run { (script : Script) → MayRun script rack.now workers.old → HaveRun script rack.now workers.old workers.new }
+{
+    let threads = workers.len().max(1);
+    thread::for_each_mut(
+        rt,
+        workers,
+        threads,
+        &|_, worker| { run_host(rt, rack, worker, clock, gate) },
+    );
+}
