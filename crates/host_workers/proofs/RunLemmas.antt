@@ -17,7 +17,7 @@ use Rattle.histories.proofs.bounds.RunQuotas.{host_runs_keep_quotas}
 use Rattle.host_engine.specs.Stands.{Stands}
 use Rattle.rack_turns.specs.declared.rack.Rack.{Rack}
 use Rattle.host_workers.specs.declared.workers.Worker.{Worker}
-use Rattle.host_workers.specs.Workers.{IsRackFor, IsAtStart, IsAlong, HasGoneOn, HasTurned, MayGoOn, MayStart, HasRun, calls_of}
+use Rattle.host_workers.specs.Workers.{IsRackFor, IsAtStart, IsAlong, HasGoneOn, HasTurned, TakesTurn, MayGoOn, MayStart, HasRun, calls_of}
 
 -- how far a worker has come since its start
 pub record HasCome {D : Type 0} {g : Ghosts D} (script : Script) (rack : Rack D g) (old new : Worker) : Type 0 where
@@ -28,9 +28,6 @@ module _ {D : Type 0} {g : Ghosts D} (rack : Rack D g) where
   -- by its script
   abbrev pub Comes : Worker → Worker → Type 0
   Comes old new = (script : Script) → IsRackFor script rack → IsAtStart script rack old → HasCome script rack old new
-
-  abbrev pub Turns : Worker → Worker → Bool → Type 0
-  Turns old new on = (script : Script) (host : HostNo) → IsRackFor script rack → IsAlong script rack host old → HasTurned script rack host old new on
 
   -- at its start it has asked nothing
   pub come-start : (worker : Worker) → Comes worker worker
@@ -60,7 +57,7 @@ module _ {D : Type 0} {g : Ghosts D} (rack : Rack D g) where
   come-may old new r come = record { script = r.script; host = old.host.no; rack_is = r.rack_is; along = (come r.script r.rack_is r.start).along }
 
   -- one request more
-  pub come-more : (old mid new : Worker) → Comes old mid → (on : Bool) → Turns mid new on → on ≡ true → Comes old new
+  pub come-more : (old mid new : Worker) → Comes old mid → (on : Bool) → TakesTurn rack mid new on → on ≡ true → Comes old new
   come-more old mid new come on turns is script rack_is start =
       let before = come script rack_is start in
       let more : HasGoneOn script rack old.host.no mid new =
@@ -68,7 +65,7 @@ module _ {D : Type 0} {g : Ghosts D} (rack : Rack D g) where
       record { along = more.along; first = more.first ∙ before.first }
 
   -- of which there are so many at most
-  pub come-smaller : (old mid new : Worker) → MayStart rack old → Comes old mid → (on : Bool) → Turns mid new on → on ≡ true →
+  pub come-smaller : (old mid new : Worker) → MayStart rack old → Comes old mid → (on : Bool) → TakesTurn rack mid new on → on ≡ true →
       host_requests old.host.script.now old.host.no - vec_len new.host.transcript < host_requests old.host.script.now old.host.no - vec_len mid.host.transcript
   come-smaller old mid new r come on turns is =
       let host = old.host.no in
@@ -82,7 +79,7 @@ module _ {D : Type 0} {g : Ghosts D} (rack : Rack D g) where
       omega (arith, few, long, same, more.more, mid.host.transcript.ok.0, new.host.transcript.ok.0)
 
   -- at the end
-  pub come-ended : (old mid new : Worker) → Comes old mid → (on : Bool) → Turns mid new on → on ≡ false →
+  pub come-ended : (old mid new : Worker) → Comes old mid → (on : Bool) → TakesTurn rack mid new on → on ≡ false →
       (script : Script) → IsRackFor script rack → IsAtStart script rack old → HasRun script rack old new
   come-ended old mid new come on turns is script rack_is start =
       let host = old.host.no in

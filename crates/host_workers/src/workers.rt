@@ -1,8 +1,6 @@
 //! Workers: a host with its pass each.
-ghost use Rattle.std.specs.Prelude.{◌≡◌, ◌<◌, ◌^◌, ◌-◌, ℕ, min, IsTrue};
-ghost use Rattle.raid_base.specs.declared.numbers.HostNo.{HostNo};
-ghost use Rattle.script_text.specs.Script.{Script};
-ghost use Rattle.host_workers.specs.Workers.{IsRackFor, IsAtStart, IsAlong, MayStart, MayGoOn, MayRun, AreReady, HasTurned, HasRun, HaveRun};
+ghost use Rattle.std.specs.Prelude.{◌≡◌, ◌<◌, ◌-◌, ◌^◌, length, min};
+ghost use Rattle.host_workers.specs.Workers.{MayGoOn, MayStart, AreReady, TakesTurn, RunsToItsEnd, RunToTheirEnds};
 
 use block_store::Store;
 use host_engine::Host;
@@ -43,7 +41,7 @@ fn turn<D: Store, G: Gate, R: Wait>(
 ) -> bool
     requires ready { MayGoOn rack.now worker.old }
     requires moment { moment < 2 ^ 40 }
-    ensures { (script : Script) (host : HostNo) → IsRackFor script rack.now → IsAlong script rack.now host worker.old → HasTurned script rack.now host worker.old worker.new result }
+    ensures { TakesTurn rack.now worker.old worker.new result }
 {
     let (bay, ask) = match worker.host.next(moment) {
         Some(sent) => sent,
@@ -63,7 +61,7 @@ fn run_host<D: Store, C: Clock, G: Gate, R: Wait>(
     gate: &G,
 )
     requires { MayStart rack.now worker.old }
-    ensures { (script : Script) → IsRackFor script rack.now → IsAtStart script rack.now worker.old → HasRun script rack.now worker.old worker.new }
+    ensures { RunsToItsEnd rack.now worker.old worker.new }
 {
     while turn(rt, rack, worker, cut(clock.now()), gate) {}
 }
@@ -74,12 +72,13 @@ fn run_host<D: Store, C: Clock, G: Gate, R: Wait>(
 /// Afterwards what each pass has asked is what its host's transcript has, call by call.
 pub fn run_hosts<D, C, G, R>(rt: &R, rack: &Rack<D>, workers: &mut [Worker], clock: &C, gate: &G)
 where
-    D: Store + Send + Sync,
+    D: Store + Send,
     C: Clock + Sync,
     G: Gate + Sync,
     R: Threads + Wait + Sync,
     requires ready { AreReady rack.now workers.old }
-    ensures run { (script : Script) → MayRun script rack.now workers.old → HaveRun script rack.now workers.old workers.new }
+    ensures count { length workers.new ≡ length workers.old }
+    ensures run { RunToTheirEnds rack.now workers.old workers.new }
 {
     let threads = workers.len().max(1);
     thread::for_each_mut(
