@@ -1,3 +1,4 @@
 mod Running
 mod RunLemmas
+mod TestLemmas
 mod WorkerLemmas

@@ -4,6 +4,8 @@
 //! that is a run of the host by the script.
 #![tactic(auto)]
 
+#[cfg(test)]
+mod tests;
 pub mod workers;
 
 pub use workers::{Clock, Worker, run_hosts};
