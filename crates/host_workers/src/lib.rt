@@ -8,4 +8,4 @@
 mod tests;
 pub mod workers;
 
-pub use workers::{Clock, Worker, run_hosts};
+pub use workers::{Worker, run_hosts};

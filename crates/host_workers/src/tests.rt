@@ -4,11 +4,11 @@ ghost use Rattle.script_text.specs.Ranges.{IsScript, all_jobs};
 ghost use Rattle.rack_turns.specs.Passes.{IsPassOf};
 ghost use Rattle.host_workers.specs.Workers.{IsRackFor, IsAtStart, AreReady};
 
-use crate::{Clock, Worker, run_hosts};
+use crate::{Worker, run_hosts};
 use bay_device::Bay;
 use block_store::MemoryStore;
 use host_engine::{Host, lookup};
-use rack_turns::{NoGate, Pass, Rack};
+use rack_turns::{Clock, NoGate, Pass, Rack};
 use raid_base::{Content, HostNo, JobEnd, Number};
 use script_text::{Script, quota, read_script};
 use std::alloc::Global;

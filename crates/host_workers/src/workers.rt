@@ -4,18 +4,13 @@ ghost use Rattle.host_workers.specs.Workers.{MayGoOn, MayStart, AreReady, TakesT
 
 use block_store::Store;
 use host_engine::Host;
-use rack_turns::{Gate, Pass, Rack};
+use rack_turns::{Clock, Gate, Pass, Rack};
 use std::sync::Wait;
 use std::thread;
 use std::thread::Threads;
 
 /// The greatest moment of a request.
 const LAST_MOMENT: u64 = (1 << 40) - 1;
-
-/// Tells moments. Nothing is promised of them.
-pub trait Clock {
-    fn now(&self) -> u64;
-}
 
 /// One host, and the pass with which it asks.
 #[derive(Drop)]

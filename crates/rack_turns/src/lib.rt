@@ -13,4 +13,4 @@ pub mod view;
 
 pub use pass::Pass;
 pub use rack::{Rack, RackFault, Try};
-pub use turn::{Gate, NoGate};
+pub use turn::{Clock, Gate, NoGate};

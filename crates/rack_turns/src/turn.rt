@@ -26,6 +26,12 @@ impl Gate for NoGate {
     fn inside(&self, _host: HostNo, _bay: BayNo) {}
 }
 
+/// Tells the moments at which hosts ask. Nothing is promised of them.
+pub trait Clock {
+    /// The moment now.
+    fn now(&self) -> u64;
+}
+
 /// Takes the turn of a bay, and the bay with it. Or else the host that has the turn.
 fn begin<D: Store>(
     top: &Shelf<D>,
