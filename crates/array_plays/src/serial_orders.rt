@@ -146,9 +146,10 @@ fn rise(results: &[JobResult], order: &[(u64, usize)]) -> bool {
 fn has_cell(journal: &[Entry], row: RowNo) -> bool {
     let mut has = true;
     for entry in journal {
-        match entry.ask.what {
+        let is_done = entry.reply() == Reply::Done;
+        match entry.ask().what {
             Request::Lose => has = false,
-            Request::Put { row: put, .. } if put == row && entry.reply == Reply::Done => has = true,
+            Request::Put { row: put, .. } if put == row && is_done => has = true,
             _ => {}
         }
     }

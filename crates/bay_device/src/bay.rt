@@ -139,11 +139,7 @@ impl<D: Store> Bay<D> {
     {
         let reply = serve(&mut self.slots, &mut self.store, ask);
         let clock = self.clock.max(ask.clock) + 1;
-        let entry = Entry {
-            ask: *ask,
-            clock,
-            reply,
-        };
+        let entry = Entry::of(ask, clock, &reply);
         self.clock = clock;
         match self.journal.push(entry) {
             Ok(()) => Answer { clock, reply },

@@ -65,8 +65,9 @@ fn earlier(
     let Some(entry) = entry else {
         return first;
     };
-    match first {
-        Some((_, least)) if least.clock <= entry.clock => first,
+    let clock = entry.clock();
+    match &first {
+        Some((_, least)) if least.clock() <= clock => first,
         _ => Some((bay, entry)),
     }
 }
@@ -90,6 +91,16 @@ fn first_head(journals: &[&[Entry]], places: &[usize; 16]) -> Option<(usize, Ent
     first
 }
 
+/// The turn at which an entry came.
+fn turn_of(entry: Entry) -> Turn
+    ensures { result ≡ record { host = entry.ask.host; moment = entry.ask.moment } }
+{
+    Turn {
+        host: entry.host(),
+        moment: entry.moment(),
+    }
+}
+
 /// Appends the turns of all entries of these journals, in the order of their clocks, and of their bays where clocks are
 /// the same.
 pub fn merge_slices(turns: &mut Turns, journals: &[&[Entry]])
@@ -102,10 +113,7 @@ pub fn merge_slices(turns: &mut Turns, journals: &[&[Entry]])
 {
     let mut places = [0; 16];
     'lines: while let Some((bay, entry)) = first_head(journals, &places) {
-        turns.push(Turn {
-            host: entry.ask.host,
-            moment: entry.ask.moment,
-        });
+        turns.push(turn_of(entry));
         places[bay] += 1;
     }
 }

@@ -36,16 +36,13 @@ fn turn(host: u8, moment: u64) -> Turn {
 fn entry(told: Told) -> Entry
     ensures { result.clock ≡ told.clock }
 {
-    Entry {
-        ask: Ask {
-            host: HostNo(told.host),
-            clock: 0,
-            moment: told.moment,
-            what: Request::Lose,
-        },
-        clock: told.clock,
-        reply: Reply::Done,
-    }
+    let ask = Ask {
+        host: HostNo(told.host),
+        clock: 0,
+        moment: told.moment,
+        what: Request::Lose,
+    };
+    Entry::of(&ask, told.clock, &Reply::Done)
 }
 
 /// A journal of these, whose clocks are to rise from 1.

@@ -10,6 +10,9 @@ use Rattle.raid_base.specs.declared.messages.Reply.{Reply}
 use Rattle.raid_base.specs.declared.messages.Errand.{Errand}
 use Rattle.raid_base.specs.Numbers.{draw, seen_drawn, least_above, sees}
 use Rattle.raid_base.specs.Steps.{Steps, Asks, Draws, Ends, Standing, draws, answer, stopped, settled, told, next_errand, behind}
+use Rattle.raid_base.specs.Fits.{fits}
+use Rattle.raid_base.specs.Exchanges.{are_kept}
+use Rattle.raid_base.proofs.ExchangeLemmas.{fits-kept}
 use Rattle.attempts.specs.Taking.{Finish}
 use Rattle.attempts.specs.Discipline.{Obeys, IsDrawn, IsWithin}
 use Rattle.std.specs.Vec.{vec_len, vec_capacity}
@@ -326,6 +329,19 @@ sent-of now moment given r bay ask n =
     let is : s.0 ≡ record { bay = bay; ask = ask } =
     ap (λ (b : BayNo). record { bay = b; ask = s.0.ask }) (sym same.0) ∙ ap (λ (a : Ask). record { bay = bay; ask = a }) (sym same.1) in
     subst (IsSentBy now moment) is s.1
+
+-- and the answer to it can be kept with it
+pub kept-sent : (now : Host) (moment : ℕ) (given : Answer) (r : CanTake now moment given) (bay : BayNo) (ask : Ask) →
+    IsSentBy now moment (record { bay = bay; ask = ask }) → are_kept ask.what given.reply ≡ true
+kept-sent now moment given r bay ask is =
+    let e = fits-some (work_errand r.p.work) given.reply r.asked in
+    let s = has-sent now moment given r in
+    let made : Sent = record { bay = e.0.bay; ask = record { host = r.host; clock = r.p.clock; moment = moment; what = e.0.request } } in
+    let asked : Some made ≡ Some s.0 = sym (ap (sent_by r.host r.p.clock moment) e.1) ∙ s.2 in
+    let first : made ≡ s.0 = cc asked in
+    let same : made ≡ record { bay = bay; ask = ask } = first ∙ sent-once now moment s.0 (record { bay = bay; ask = ask }) s.1 is in
+    let fitting : fits e.0.request given.reply ≡ true = subst (λ (o : Option Errand). FitsNext o given.reply) e.1 r.asked in
+    fits-kept ask.what given.reply (subst (λ (x : Sent). fits x.ask.what given.reply ≡ true) same fitting)
 
 -- and it has sent no other
 pub same-sent : (now : Host) (moment : ℕ) (bay : BayNo) (ask : Ask) (sent : Sent) → IsSentBy now moment (record { bay = bay; ask = ask }) → IsSentBy now moment sent →

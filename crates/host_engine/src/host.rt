@@ -131,7 +131,8 @@ fn first_blocks<'s>(script: &'s Script, jobs: &[Job]) -> &'s [[u8; 64]]
 }
 
 impl<'s> Host<'s> {
-    ghost use Rattle.std.specs.Prelude.{if◌then◌else◌, false, IfOk, [], ◌∷◌, ◌++◌, None, drop};
+    ghost use Rattle.std.specs.Prelude.{if◌then◌else◌, false, IfOk, IsTrue, [], ◌∷◌, ◌++◌, None, drop};
+    ghost use Rattle.raid_base.specs.Exchanges.{are_kept};
     ghost use Rattle.script_text.specs.Script.{Script, jobs_of};
     ghost use Rattle.raid_base.specs.declared.numbers.HostNo.{HostNo};
     ghost use Rattle.raid_base.specs.declared.jobs.JobEnd.{JobEnd};
@@ -523,14 +524,15 @@ impl<'s> Host<'s> {
     }
 
     /// Counts a call.
-    fn note(&mut self, call: Call)
+    fn note(&mut self, bay: BayNo, ask: &Ask, answer: &Answer)
         requires room { vec_len self.old.transcript < vec_capacity self.old.transcript }
-        ensures noted { IsNoted self.old self.new call.answer.clock }
-        ensures call { self.new.transcript.items ≡ self.old.transcript.items ++ call ∷ [] }
+        requires kept { IsTrue (are_kept ask.now.what answer.now.reply) }
+        ensures noted { IsNoted self.old self.new answer.now.clock }
+        ensures call { self.new.transcript.items ≡ self.old.transcript.items ++ (record { bay = bay; ask = ask.now; answer = answer.now }) ∷ [] }
         ensures room { vec_capacity self.new.transcript ≡ vec_capacity self.old.transcript }
     {
-        self.transcript.push_reserved(call);
-        self.clock = call.answer.clock;
+        self.transcript.push_reserved(Call::of(bay, ask, answer));
+        self.clock = answer.clock;
         self.asked += 1;
     }
 
@@ -540,11 +542,7 @@ impl<'s> Host<'s> {
         requires sent { IsSentBy self.old moment (record { bay = bay; ask = ask.now }) }
         ensures { (sent : Sent) → IsSentBy self.old moment sent → Takes self.old self.new moment answer.now sent }
     {
-        self.note(Call {
-            bay,
-            ask: *ask,
-            answer: *answer,
-        });
+        self.note(bay, ask, answer);
         match self.duty {
             Some(Duty::Trying) => self.tell(&answer.reply),
             Some(Duty::Losing(bay)) => {

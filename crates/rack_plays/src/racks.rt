@@ -186,7 +186,7 @@ fn all_ask<R: Threads + Wait + Sync, D: Store + Send>(rt: &R, rack: &Rack<D>, pa
 fn count_of(entries: &[Entry], host: HostNo) -> usize {
     entries
         .iter()
-        .filter(|entry| entry.ask.host == host)
+        .filter(|entry| entry.host() == host)
         .count()
 }
 
@@ -194,7 +194,7 @@ fn count_of(entries: &[Entry], host: HostNo) -> usize {
 fn counts_up(entries: &[Entry]) -> bool {
     (1u64..)
         .zip(entries.iter())
-        .all(|(clock, entry)| entry.clock == clock)
+        .all(|(clock, entry)| entry.clock() == clock)
 }
 
 #[test]

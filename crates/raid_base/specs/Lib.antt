@@ -8,3 +8,5 @@ pub mod Streams
 pub mod Fits
 pub mod Steps
 pub mod First
+pub mod Exchanges
+pub mod Calls

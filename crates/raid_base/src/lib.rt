@@ -2,6 +2,7 @@
 #![tactic(auto)]
 
 pub mod cells;
+mod exchange;
 pub mod fitting;
 pub mod jobs;
 pub mod messages;

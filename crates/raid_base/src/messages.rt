@@ -2,7 +2,10 @@
 ghost use Rattle.std.specs.Prelude.{◌≡◌};
 
 use crate::cells::Cell;
+use crate::exchange::Exchange;
 use crate::numbers::{BayNo, HostNo, Number, RowNo};
+use std::marker::Model;
+use std::mem::size_of;
 
 /// How devices order what they get: by locks, or by the stamps that requests carry.
 #[derive(Clone, Copy, Debug, PartialEq, Eq)]
@@ -23,9 +26,9 @@ pub enum How {
 #[derive(Clone, Copy, Debug, PartialEq, Eq)]
 pub struct Note {
     pub host: HostNo,
+    pub mask: u16,
     pub id: Number,
     pub origin: Number,
-    pub mask: u16,
     pub moment: u64,
 }
 
@@ -119,21 +122,178 @@ pub struct Answer {
     pub reply: Reply,
 }
 
-/// A line of a bay's journal.
+/// A line of a bay's journal: what was asked, the bay's clock after it, and what was answered.
+///
+/// Contracts see those three. A request and its reply are kept together, in less room than both take alone.
 #[derive(Clone, Copy, Debug, PartialEq, Eq)]
 pub struct Entry {
-    pub ask: Ask,
-    pub clock: u64,
-    pub reply: Reply,
+    host: HostNo,
+    asked: u64,
+    moment: u64,
+    clock: u64,
+    exchange: Exchange,
 }
 
-/// A line of a host's transcript.
+impl Model for Entry {
+    ghost use Rattle.raid_base.specs.Calls.{Entry as Line};
+
+    ghost Value = { Line };
+
+    ghost use Rattle.raid_base.specs.Exchanges.{exchange_of, request_of, reply_of, exchange-back};
+
+    ghost view = { λ e. record { ask = record { host = e.host; clock = e.asked; moment = e.moment; what = request_of e.exchange }; clock = e.clock; reply = reply_of e.exchange } };
+
+    ghost inverse = { λ e. record { host = e.ask.host; asked = e.ask.clock; moment = e.ask.moment; clock = e.clock; exchange = exchange_of e.ask.what e.reply } };
+
+    ghost inverse_ok = { λ e h i. record { host = e.host; asked = e.asked; moment = e.moment; clock = e.clock; exchange = exchange-back e.exchange i } };
+}
+
+impl Entry {
+    ghost use Rattle.std.specs.Prelude.{◌≡◌, IsTrue};
+    ghost use Rattle.raid_base.specs.Exchanges.{are_kept};
+
+    /// The line of this ask, this clock of the bay and this reply.
+    pub fn of(ask: &Ask, clock: u64, reply: &Reply) -> Entry
+        requires kept { IsTrue (are_kept ask.now.what reply.now) }
+        ensures { result ≡ record { ask = ask.now; clock = clock; reply = reply.now } }
+    {
+        Entry {
+            host: ask.host,
+            asked: ask.clock,
+            moment: ask.moment,
+            clock,
+            exchange: Exchange::of(&ask.what, reply),
+        }
+    }
+
+    /// What was asked.
+    pub fn ask(&self) -> Ask
+        ensures { result ≡ self.now.ask }
+    {
+        Ask {
+            host: self.host,
+            clock: self.asked,
+            moment: self.moment,
+            what: self.exchange.request(),
+        }
+    }
+
+    /// The host that asked.
+    pub fn host(&self) -> HostNo
+        ensures { result ≡ self.now.ask.host }
+    {
+        self.host
+    }
+
+    /// The moment at which it asked.
+    pub fn moment(&self) -> u64
+        ensures { result ≡ self.now.ask.moment }
+    {
+        self.moment
+    }
+
+    /// The bay's clock after it.
+    pub fn clock(&self) -> u64
+        ensures { result ≡ self.now.clock }
+    {
+        self.clock
+    }
+
+    /// What was answered.
+    pub fn reply(&self) -> Reply
+        ensures { result ≡ self.now.reply }
+    {
+        self.exchange.reply()
+    }
+}
+
+/// A line of a host's transcript: the bay, what was asked of it, and the answer.
+///
+/// Contracts see those three. It is kept as an entry is.
 #[derive(Clone, Copy, Debug, PartialEq, Eq)]
 pub struct Call {
-    pub bay: BayNo,
-    pub ask: Ask,
-    pub answer: Answer,
+    bay: BayNo,
+    host: HostNo,
+    asked: u64,
+    moment: u64,
+    clock: u64,
+    exchange: Exchange,
 }
+
+impl Model for Call {
+    ghost use Rattle.raid_base.specs.Calls.{Call as Line};
+
+    ghost Value = { Line };
+
+    ghost use Rattle.raid_base.specs.Exchanges.{exchange_of, request_of, reply_of, exchange-back};
+
+    ghost view = { λ c. record { bay = c.bay; ask = record { host = c.host; clock = c.asked; moment = c.moment; what = request_of c.exchange }; answer = record { clock = c.clock; reply = reply_of c.exchange } } };
+
+    ghost inverse = { λ c. record { bay = c.bay; host = c.ask.host; asked = c.ask.clock; moment = c.ask.moment; clock = c.answer.clock; exchange = exchange_of c.ask.what c.answer.reply } };
+
+    ghost inverse_ok = { λ c h i. record { bay = c.bay; host = c.host; asked = c.asked; moment = c.moment; clock = c.clock; exchange = exchange-back c.exchange i } };
+}
+
+impl Call {
+    ghost use Rattle.std.specs.Prelude.{◌≡◌, IsTrue};
+    ghost use Rattle.raid_base.specs.Exchanges.{are_kept};
+
+    /// The line of this bay, this ask and this answer.
+    pub fn of(bay: BayNo, ask: &Ask, answer: &Answer) -> Call
+        requires kept { IsTrue (are_kept ask.now.what answer.now.reply) }
+        ensures { result ≡ record { bay = bay; ask = ask.now; answer = answer.now } }
+    {
+        Call {
+            bay,
+            host: ask.host,
+            asked: ask.clock,
+            moment: ask.moment,
+            clock: answer.clock,
+            exchange: Exchange::of(&ask.what, &answer.reply),
+        }
+    }
+
+    /// The bay that was asked.
+    pub fn bay(&self) -> BayNo
+        ensures { result ≡ self.now.bay }
+    {
+        self.bay
+    }
+
+    /// What was asked.
+    pub fn ask(&self) -> Ask
+        ensures { result ≡ self.now.ask }
+    {
+        Ask {
+            host: self.host,
+            clock: self.asked,
+            moment: self.moment,
+            what: self.exchange.request(),
+        }
+    }
+
+    /// The bay's clock after it.
+    pub fn clock(&self) -> u64
+        ensures { result ≡ self.now.answer.clock }
+    {
+        self.clock
+    }
+
+    /// What was answered, with the bay's clock after it.
+    pub fn answer(&self) -> Answer
+        ensures { result ≡ self.now.answer }
+    {
+        Answer {
+            clock: self.clock,
+            reply: self.exchange.reply(),
+        }
+    }
+}
+
+// Journals and transcripts are the greater part of what a play keeps.
+const _: () = prove!(size_of::<Entry>() <= 176);
+
+const _: () = prove!(size_of::<Call>() <= 176);
 
 /// One step of a play: this host's next request is handled at this moment.
 #[derive(Clone, Copy, Debug, PartialEq, Eq)]
@@ -162,8 +322,8 @@ impl Default for Errand {
 #[derive(Clone, Copy, Debug, Default, PartialEq, Eq)]
 pub struct Grant {
     pub cell: Option<Cell>,
-    pub last: Number,
     pub life: u32,
+    pub last: Number,
     pub seized: Option<Note>,
 }
 
@@ -239,3 +399,6 @@ impl Reply {
         }
     }
 }
+
+#[cfg(test)]
+mod tests;

@@ -1,4 +1,4 @@
-use Rattle.std.proofs.Common.{◌≡◌, ◌≤◌, ◌<◌, ◌+◌, ◌-◌, ◌^◌, ◌∷◌, List, [], get_or, set, length, sum_by, refl, sym, ap, subst, ◌∙◌, arith, length-append, length-set}
+use Rattle.std.proofs.Common.{◌≡◌, ◌≤◌, ◌<◌, ◌+◌, ◌-◌, ◌^◌, ◌++◌, ◌∷◌, List, [], get_or, set, length, sum_by, refl, sym, ap, subst, ◌∙◌, arith, rules, length-append, length-set}
 use Rattle.raid_base.specs.declared.messages.Entry.{Entry}
 use Rattle.raid_base.specs.declared.messages.Turn.{Turn}
 use Rattle.clock_merge.specs.Heads.{entries_in}
@@ -31,9 +31,8 @@ lines-smaller c =
     let room : sum_by (λ (es : List Entry). length es) (entries_in c.args.journals.now) + length c.args.turns.now.items ≤ c.args.turns.now.room = c.requires.room in
     let same : c.lines.turns.room ≡ c.args.turns.now.room = c.lines.invariant.room in
     let kept : c.push.new.self.room ≡ c.lines.turns.room = c.push.ensures.room in
-    let turn : Turn = record { host = c.in-Some.entry.ask.host; moment = c.in-Some.entry.ask.moment } in
     let longer : length c.push.new.self.items ≡ length c.lines.turns.items + 1 =
-    ap (λ (turns : List Turn). length turns) c.push.ensures.items ∙ length-append c.lines.turns.items (turn ∷ []) in
+    ap (λ (turns : List Turn). length turns) c.push.ensures.items ∙ length-append c.lines.turns.items (c.turn_of.result ∷ []) in
     let less : c.push.new.self.room - length c.push.new.self.items < c.lines.turns.room - length c.lines.turns.items = omega (arith, more, room, same, kept, longer) in
     less
 
@@ -42,9 +41,12 @@ lines-preserved c =
     let m = c.lines.invariant.merging in
     let next = round-next c.args.journals.now c.lines.places c.args.turns.now.items c.lines.turns.items m c.in-Some.bay c.in-Some.entry c.in-Some.ensures c.requires.few c.lines.invariant.long
     c.requires.rising in
+    let turn : Turn = record { host = c.in-Some.entry.ask.host; moment = c.in-Some.entry.ask.moment } in
+    let same : c.turn_of.result ≡ turn = search rules in
+    let turned : c.push.new.self.items ≡ c.lines.turns.items ++ turn ∷ [] = c.push.ensures.items ∙ ap (λ (t : Turn). c.lines.turns.items ++ t ∷ []) same in
     record {
       merging = subst (λ (turns : List Turn). Merging (entries_in c.args.journals.now) (set c.lines.places c.in-Some.bay (get_or c.lines.places c.in-Some.bay 0 + 1)) c.args.turns.now.items turns)
-          (sym c.push.ensures.items) next;
+          (sym turned) next;
       room = c.push.ensures.room ∙ c.lines.invariant.room;
       long = length-set c.lines.places c.in-Some.bay (get_or c.lines.places c.in-Some.bay 0 + 1) ∙ c.lines.invariant.long;
     }

@@ -1,7 +1,10 @@
 use Rattle.std.proofs.Common.{◌≡◌, Some, ap, ◌∙◌, refl}
 use Rattle.host_engine.specs.declared.duty.Duty.TheVariants as duties
-use Rattle.host_engine.proofs.TakeLemmas.{same-sent, noted-call, may-hear, takes-all, loses-as, fits-as}
+use Rattle.host_engine.proofs.TakeLemmas.{kept-sent, same-sent, noted-call, may-hear, takes-all, loses-as, fits-as}
 use Rattle.host_engine.proofs.host.Host.heard.Goals as goal
+
+pub note-requires-clause-kept : goal.note-requires-clause-kept
+note-requires-clause-kept c = kept-sent c.args.self.now c.args.moment c.args.answer.now c.requires.ready c.args.bay c.args.ask.now c.requires.sent
 
 pub tell-requires-clause-ready : goal.tell-requires-clause-ready
 tell-requires-clause-ready c =
