@@ -13,7 +13,7 @@ use std::alloc::Global;
 use std::marker::Model;
 
 /// What is open on each row, by the row's number. The first `count` entries are those with a note or a reader.
-#[derive(Drop)]
+#[derive(Debug, Drop)]
 pub struct OpenRows {
     entries: IndexMap<u16, Open>,
     count: u16,

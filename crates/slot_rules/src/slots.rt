@@ -114,7 +114,7 @@ impl RowState {
 ///
 /// A row's slot is blank exactly where it was last put in another life than the bay's. Both its numbers are then `bare`, so
 /// a device is lost and fitted without a look at the rows on which nothing is open.
-#[derive(Drop)]
+#[derive(Debug, Drop)]
 pub struct Slots {
     state: BayState,
     bare: Number,
