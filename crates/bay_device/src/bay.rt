@@ -1,4 +1,11 @@
-//! A bay.
+//! A bay: slots over a store, and the journal of all that it was asked.
+//!
+//! `handle` judges an ask by the slots, lets the store read or write where the rule needs it, changes the slots,
+//! and appends the ask with its answer to the journal. The clock of the answer is one above the greater of the
+//! bay's and the ask's, so clocks rise along each journal.
+//!
+//! Reply and slots are the slot rule's, and the reply is `Fault` only where the store's count of failures rose. All
+//! memory, for `cap` entries, is taken by `make`: who asks keeps room. A world's turns call it.
 ghost use Rattle.std.specs.Prelude.{◌≡◌, ◌≤◌, ◌<◌, ◌+◌, ◌^◌, List, ℕ, length, vec_len};
 ghost use Rattle.std.specs.Vec.{vec_capacity};
 ghost use Rattle.slot_rules.specs.Tables.{with_blocks};

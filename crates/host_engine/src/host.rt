@@ -1,4 +1,13 @@
 //! One host: its jobs in order, each by one attempt after another until it is done or given up.
+//!
+//! A job that reads, writes, rebuilds or recovers draws an id and begins an attempt. `next` tells the request in
+//! hand, and `heard` takes the answer: the call is noted in the transcript, and the reply is handed to the attempt.
+//! An attempt that was refused is followed by another with a new id, up to the job's last try. A rebuild makes its
+//! attempts row by row. A job with `quit` stops the host for good after so many requests. The operator, host 0,
+//! loses and fits devices, and remembers which one is gone.
+//!
+//! A host stands where the progress of its calls says, by the definitions of `histories`: what it asks next, and
+//! what it reports of each job. All memory is taken by `make`. A world's turns call it.
 ghost use Rattle.std.specs.Prelude.{◌≡◌, ◌+◌, ◌<◌, ◌≤◌, ◌-◌, ◌^◌, Some, true, ◌==◌, ◌||◌, length};
 ghost use Rattle.histories.specs.Operator.{is_gone};
 ghost use Rattle.histories.specs.Progress.{parts_end, is_spent, quit_end};

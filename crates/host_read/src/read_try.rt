@@ -1,4 +1,13 @@
 //! A read as a machine of requests.
+//!
+//! Row by row it shares the wanted units. Where one is missing it shares the parity too, and then the row's other
+//! units, and makes the missing block from them. Under locks it then draws its number and gives its readers back
+//! with it: a reader that is gone by then refuses the read, since another may have written in between. Under stamps
+//! its id is its number, and there is nothing to give back.
+//!
+//! A refused read gives its readers back, and has no contents. What is left of the machine is at each step what is
+//! left of the read's definition, whatever the replies. A host's `Attempt` calls it: `next` for the request in
+//! hand, `take` with the reply, `end` and `contents` once nothing is left, and `quit` where the host stops.
 ghost use Rattle.std.specs.Prelude.{◌≡◌, ◌+◌, ◌*◌, ◌^◌, ◌<◌, ◌≤◌, [], ◌∷◌, ◌++◌, ◌↔◌, Some, None, true, if◌then◌else◌, length, IsTrue, IsSome, IsNone, option_map};
 ghost use Rattle.arrayvec.specs.ArrayVec.{array_vec_len};
 ghost use Rattle.virtual_objects.specs.RowParts.{AreRowParts};

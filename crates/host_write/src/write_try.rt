@@ -1,4 +1,15 @@
 //! A write as a machine of requests.
+//!
+//! Row by row it claims the parity and the wanted units, and where its plan needs them it shares the row's other
+//! units. Then it confirms each row's parity: a row that has changed since refuses the write, and until then
+//! nothing was put. The new parities are made of what these replies have shown. Now it draws its number; under
+//! stamps its id is the number. Then it puts row by row, the units before the parity, and at last gives back its
+//! readers.
+//!
+//! A put that fails, or whose note was seized, ends the puts of its row alone, and the write is then done in part.
+//! A refused write gives back all that it holds. What is left of the machine is at each step what is left of the
+//! write's definition, whatever the replies. A host's `Attempt` calls it: `next` for the request in hand, `take`
+//! with the reply, `end` once nothing is left, and `quit` where the host stops.
 ghost use Rattle.std.specs.Prelude.{◌≡◌, ℕ, List, ◌+◌, ◌*◌, ◌^◌, ◌<◌, ◌≤◌, [], ◌↔◌, Some, None, true, length, IsTrue, IsSome, option_map};
 ghost use Rattle.arrayvec.specs.ArrayVec.{array_vec_len};
 ghost use Rattle.attempts.specs.Parts.{blocks_in};

@@ -1,4 +1,12 @@
 //! A rebuild as a machine of requests.
+//!
+//! It claims every slot of its row with its cell, the parity first, and confirms its note on the parity. Then it
+//! draws a number. It puts what the other slots make of the target's cell, unless the target showed one, and at
+//! last gives its notes back.
+//!
+//! A row in which another slot than the target is missing refuses it. A refused rebuild gives back what it still
+//! holds. What is left of the machine is at each step what is left of the rebuild's definition, whatever the
+//! replies. A host's `Attempt` calls it, for one row after another of a device that was fitted.
 ghost use Rattle.std.specs.Prelude.{◌≡◌, ◌+◌, ◌^◌, ◌<◌, ◌≤◌, ◌↔◌, Some, None, true, false, length, IsTrue, IsSome, option_map};
 ghost use Rattle.arrayvec.specs.ArrayVec.{array_vec_len};
 ghost use Rattle.raid_base.specs.Steps.{next_errand, behind, stopped, answer, settled, told};

@@ -1,7 +1,10 @@
 //! A report, read from its text line by line.
 //!
-//! Each line is read by itself, and then tried behind those before it. So the first line that makes no report with the lines
-//! before it is found where it stands.
+//! Each line is read by itself, and then tried behind those before it. So the first line that makes no report with
+//! the lines before it is the one that is told. Results come first with what was read, then turns, blocks and rows,
+//! and after the end line nothing may follow.
+//!
+//! Each report that can be told has one text, and what is read is the report with this text.
 ghost use Rattle.std.specs.Prelude.{◌≡◌, ◌^◌, ◌<◌, ℕ, length, IfOk, IfSome, IfNone, Err};
 ghost use Rattle.report_text.specs.Beginnings.{IsFirstBad};
 ghost use Rattle.report_text.specs.Steps.{StepsOn, IsStuck};

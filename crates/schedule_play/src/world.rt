@@ -1,4 +1,11 @@
 //! Bays and hosts, stepped one request at a time.
+//!
+//! A turn takes the request in hand of one host, has its bay handle it, and hands the answer back to the host.
+//! Nothing else happens in between, so each turn adds one call to the history. The world shows that history: each
+//! bay is what the rule makes of its calls, and each host stands where its calls have led.
+//!
+//! The opening is in `making`, turns and rounds are in `playing`, and what is gathered at the end in `closing`. The
+//! top call makes a world, plays it, reads it, prints what it shows, and closes it.
 ghost use Rattle.std.specs.Prelude.{◌≡◌, ◌<◌, ◌^◌, List, slice_index_or, length, is_some, true, false};
 ghost use Rattle.raid_base.specs.declared.messages.Call.{Call};
 ghost use Rattle.script_text.specs.Script.{Script};

@@ -1,4 +1,11 @@
 //! A script, read from its text: the first line that no script has is told, and what is wrong with it.
+//!
+//! `lines` reads each line into the script that the lines before it tell, and says which line may come next; `jobs`
+//! reads the jobs of a host. After the end line nothing may follow.
+//!
+//! Each script has one text, and what is read is the script with this text. A fault names the first line such that
+//! the lines up to it begin no script's text; refused memory is told apart from that. The top call reads its input
+//! so.
 ghost use Rattle.std.specs.Prelude.{◌≡◌, ◌<◌, ◌^◌, ℕ, IfOk, Some, length};
 ghost use Rattle.raid_base.specs.declared.status.Kind.{Kind};
 ghost use Rattle.script_text.specs.Faults.{fault_in, is_ended};

@@ -1,7 +1,11 @@
 //! One slot: which requests it refuses, and what the others leave of it.
 //!
-//! A request that isn't refused may need the store. So each has a part that says how it is refused and changes nothing,
-//! and a part that does what the rule says once the store has done its part.
+//! A request that isn't refused may need the store. So each has a part that says how it is refused and changes
+//! nothing, and a part that does what the rule says once the store has done its part. `judge` goes through the
+//! first alone, and `serve` through both. The order is that of the rule: an empty bay, a missing cell, a note or a
+//! reader in the way, a number that comes too late, and then what is granted.
+//!
+//! Reply and slot are those of the rule, for whatever blocks the store has. `Slots` calls it for the slot of a row.
 ghost use Rattle.std.specs.Prelude.{◌≡◌};
 ghost use Rattle.raid_base.specs.Numbers.{greater};
 ghost use Rattle.slot_rules.specs.Rules.{raised};

@@ -1,4 +1,13 @@
 //! A recovery as a machine of requests.
+//!
+//! It seizes every slot of its row, the parity first, from holders that are old enough, and confirms its note on
+//! the parity. Then it draws a number, and goes by what it was shown. A row with all its slots gets its parity
+//! anew. One in which a unit is missing gets one only if it is torn, and that unit is then named lost. One without
+//! a parity stays as it is, and the operator alone may recover it. At last the recovery gives its notes back.
+//!
+//! A refused recovery keeps the notes that it has seized, so that no write comes into a row that may be torn, and
+//! gives back the others. What is left of the machine is at each step what is left of the recovery's definition,
+//! whatever the replies. A host's `Attempt` calls it.
 ghost use Rattle.std.specs.Prelude.{◌≡◌, ◌+◌, ◌^◌, ◌<◌, ◌≤◌, ◌↔◌, Some, None, true, length, IsSome, option_map, unwrap_or};
 ghost use Rattle.raid_base.specs.Steps.{next_errand, behind, stopped, answer, settled, told};
 ghost use Rattle.raid_base.specs.declared.messages.Errand.{Errand as ErrandView};
