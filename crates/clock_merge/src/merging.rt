@@ -1,6 +1,7 @@
 //! The merge of journals by their clocks.
 ghost use Rattle.std.specs.Prelude.{◌≡◌, ◌+◌, ◌<◌, ◌≤◌, ◌++◌, ◌∷◌, [], Option, length, map, sum_by, slice_get, IfOk};
 ghost use Rattle.std.specs.List.{AllByRecursion};
+ghost use Rattle.std.specs.Vec.{vec_capacity};
 ghost use Rattle.clock_merge.specs.Merge.{ClocksRise};
 ghost use Rattle.clock_merge.specs.Heads.{heads_at, entries_in, AreShort, IsFirst, GoesFirst};
 ghost use Rattle.clock_merge.specs.Turns.{AppendsMerge};
@@ -42,6 +43,14 @@ impl Turns {
         ensures { result.now ≡ self.now.items }
     {
         self.turns.as_slice()
+    }
+
+    /// The list of the turns, and its room with it.
+    pub fn into_vec(self) -> Vec<Turn>
+        ensures items { result.items ≡ self.items }
+        ensures room { vec_capacity result ≡ self.room }
+    {
+        self.turns
     }
 
     /// Appends a turn, for which there is room.
