@@ -1,5 +1,5 @@
 -- How the parts of one slot's code make up the rule.
-use Rattle.std.proofs.Common.{◌≡◌, ℕ, false, List, Option, Some, None, refl, sym, ap, subst, ◌∙◌}
+use Rattle.std.proofs.Common.{◌≡◌, false, Option, Some, None, refl, sym, ap, subst, ◌∙◌}
 use Rattle.raid_base.specs.declared.numbers.Number.{Number}
 use Rattle.raid_base.specs.declared.messages.Mode.{Mode}
 use Rattle.raid_base.specs.declared.messages.Ask.{Ask}
@@ -8,38 +8,34 @@ use Rattle.raid_base.specs.declared.messages.Reply.TheVariants.{Missing}
 use Rattle.raid_base.specs.declared.messages.How.TheVariants.{Plain}
 use Rattle.slot_rules.specs.declared.slot.BayState.{BayState}
 use Rattle.slot_rules.specs.Slots.{Slot, Bay}
-use Rattle.slot_rules.specs.Rules.{keeps, missing_floor, note_id, share_at, claim_at, confirm_missing}
+use Rattle.slot_rules.specs.Rules.{keeps, note_id, share_at, claim_at, confirm_missing}
 use Rattle.slot_rules.specs.Tables.{Kept, bay_of, with_block}
-use Rattle.slot_rules.specs.Parts.{RefusesShareBy, RefusesShare, RefusesClaimThere, RefusesClaim, RefusesConfirm}
-
--- the floor of a missing slot, whatever the other slots and its block
-abbrev pub FloorIs : BayState → Kept → Option Number → Type 0
-FloorIs state kept floor = (others : List Slot) (block : List ℕ) → floor ≡ missing_floor (bay_of state others) (with_block kept block)
+use Rattle.slot_rules.specs.Parts.{IsFloorOf, RefusesShareBy, RefusesShare, RefusesClaimAt, RefusesClaim, RefusesConfirm}
 
 pub share-missing : (state : BayState) (kept : Kept) (ask : Ask) (id : Number) (floor : Option Number) (n : Number) →
-    FloorIs state kept floor → floor ≡ Some n → RefusesShare state kept ask id (Some (Missing n))
+    IsFloorOf state kept floor → floor ≡ Some n → RefusesShare state kept ask id (Some (Missing n))
 share-missing state kept ask id floor n is some = λ others block want fails.
     ap (λ f. share_at (bay_of state others) (with_block kept block) ask id want fails f) (sym (is others block) ∙ some)
 
 pub share-there : (state : BayState) (kept : Kept) (ask : Ask) (id : Number) (floor : Option Number) (mode : Mode) (refusal : Option Reply) →
-    FloorIs state kept floor → floor ≡ None → state.mode ≡ mode → RefusesShareBy mode state kept ask id refusal → RefusesShare state kept ask id refusal
+    IsFloorOf state kept floor → floor ≡ None → state.mode ≡ mode → RefusesShareBy mode state kept ask id refusal → RefusesShare state kept ask id refusal
 share-there state kept ask id floor mode refusal is none m by = λ others block want fails.
     ap (λ f. share_at (bay_of state others) (with_block kept block) ask id want fails f) (sym (is others block) ∙ none)
     ∙ subst (λ (k : Mode). RefusesShareBy k state kept ask id refusal) (sym m) by others block want fails
 
 pub claim-missing : (state : BayState) (kept : Kept) (ask : Ask) (id : Number) (floor : Option Number) (n : Number) →
-    FloorIs state kept floor → floor ≡ Some n → RefusesClaim state kept ask id Plain (Some (Missing n))
+    IsFloorOf state kept floor → floor ≡ Some n → RefusesClaim state kept ask id Plain (Some (Missing n))
 claim-missing state kept ask id floor n is some = λ others block mask want fails.
     ap (λ f. claim_at (bay_of state others) (with_block kept block) ask id Plain mask want fails f) (sym (is others block) ∙ some)
 
 pub claim-there : (state : BayState) (kept : Kept) (ask : Ask) (id : Number) (floor : Option Number) (refusal : Option Reply) →
-    FloorIs state kept floor → floor ≡ None → RefusesClaimThere state kept id Plain refusal → RefusesClaim state kept ask id Plain refusal
+    IsFloorOf state kept floor → floor ≡ None → RefusesClaimAt state kept id Plain refusal → RefusesClaim state kept ask id Plain refusal
 claim-there state kept ask id floor refusal is none there = λ others block mask want fails.
     ap (λ f. claim_at (bay_of state others) (with_block kept block) ask id Plain mask want fails f) (sym (is others block) ∙ none)
     ∙ there others block ask mask want fails
 
 pub confirm-refused : (state : BayState) (kept : Kept) (id : Number) (floor refloor : Option Number) (refusal : Reply) →
-    FloorIs state kept floor → note_id kept.note id ≡ false → floor ≡ refloor →
+    IsFloorOf state kept floor → note_id kept.note id ≡ false → floor ≡ refloor →
     ((bay : Bay) (slot : Slot) → bay.life ≡ state.life → confirm_missing bay slot refloor ≡ keeps slot refusal) →
     RefusesConfirm state kept id (Some refusal)
 confirm-refused state kept id floor refloor refusal is none same by = λ others block want fails.

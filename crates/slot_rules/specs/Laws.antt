@@ -12,7 +12,7 @@ use Rattle.raid_base.specs.declared.messages.Ask.{Ask}
 use Rattle.raid_base.specs.declared.messages.Reply.{Reply}
 use Rattle.raid_base.specs.declared.messages.Reply.TheVariants.{Granted, Busy, Late, Young, Missing, Held, NoNote, Done, Fault, Emptied, Fitted}
 use Rattle.raid_base.specs.declared.messages.Request.{Request}
-use Rattle.raid_base.specs.declared.messages.Request.TheVariants.{Share, Claim, Put, Release, Lose}
+use Rattle.raid_base.specs.declared.messages.Request.TheVariants.{Share, Claim, Confirm, Put, Release, Lose, Fit}
 use Rattle.raid_base.specs.declared.messages.Entry.{Entry}
 use Rattle.raid_base.specs.Fits.{fits}
 use Rattle.raid_base.specs.Replies.{is_fault}
@@ -21,7 +21,7 @@ use Rattle.raid_base.specs.Numbers.{number}
 use Rattle.slot_rules.specs.Slots.{Slot, Bay, first_bay, bare_slot, slot_of}
 use Rattle.slot_rules.specs.Replay.{Replays}
 use Rattle.slot_rules.specs.Serving.{row_of}
-use Rattle.slot_rules.specs.Rules.{note_id, is_reader, rule}
+use Rattle.slot_rules.specs.Rules.{note_id, note_of, is_reader, rule}
 
 -- the reply always fits the request
 abbrev pub RepliesFit : Type 0
@@ -75,7 +75,16 @@ FaultsComeOfStores = (bay : Bay) (ask : Ask) → FaultsComeOfTheStore bay ask
 -- whether a reply grants
 abbrev pub is_granted : Reply → Bool
 is_granted (Granted cell read_no write_no last life seized) = true
-is_granted _ = false
+is_granted (Busy holder) = false
+is_granted (Late above) = false
+is_granted (Young note) = false
+is_granted (Missing floor) = false
+is_granted (Held cell) = false
+is_granted (NoNote life) = false
+is_granted Done = false
+is_granted Fault = false
+is_granted Emptied = false
+is_granted Fitted = false
 
 -- while a note is open no share with an id above its origin is granted under stamps, and none at all under locks
 abbrev pub NotesHoldOffShares : Type 0
@@ -89,7 +98,15 @@ NotesHoldOffShares =
 abbrev pub shown_life : Reply → Option ℕ
 shown_life (Granted cell read_no write_no last life seized) = Some life
 shown_life (NoNote life) = Some life
-shown_life _ = None
+shown_life (Busy holder) = None
+shown_life (Late above) = None
+shown_life (Young note) = None
+shown_life (Missing floor) = None
+shown_life (Held cell) = None
+shown_life Done = None
+shown_life Fault = None
+shown_life Emptied = None
+shown_life Fitted = None
 
 -- the number under which a slot was read: under stamps by a granted share, under locks by a release of a reader
 abbrev pub order_read : Mode → Number → Option Number
@@ -99,43 +116,89 @@ order_read Lock id = None
 -- the number under which a granted request reads
 abbrev pub granted_read : Request → Mode → Option Number
 granted_read (Share row id want) mode = order_read mode id
-granted_read _ mode = None
+granted_read (Claim row id how mask want) mode = None
+granted_read (Confirm row id want) mode = None
+granted_read (Put row id n cell) mode = None
+granted_read (Release row id n) mode = None
+granted_read Lose mode = None
+granted_read Fit mode = None
 
 -- the number under which a release reads that was done: none where it was of a note
 abbrev pub released_read : Request → Option Note → Option Number
 released_read (Release row id n) open_note = if note_id open_note id then None else n
-released_read _ open_note = None
+released_read (Share row id want) open_note = None
+released_read (Claim row id how mask want) open_note = None
+released_read (Confirm row id want) open_note = None
+released_read (Put row id n cell) open_note = None
+released_read Lose open_note = None
+released_read Fit open_note = None
 
 -- the number under which a slot was read, by the note that was open before
 abbrev pub read_number : Mode → Option Note → Request → Reply → Option Number
 read_number mode open_note what (Granted cell read_no write_no last life seized) = granted_read what mode
 read_number mode open_note what Done = released_read what open_note
-read_number mode open_note what _ = None
+read_number mode open_note what (Busy holder) = None
+read_number mode open_note what (Late above) = None
+read_number mode open_note what (Young note) = None
+read_number mode open_note what (Missing floor) = None
+read_number mode open_note what (Held cell) = None
+read_number mode open_note what (NoNote life) = None
+read_number mode open_note what Fault = None
+read_number mode open_note what Emptied = None
+read_number mode open_note what Fitted = None
 
 -- the number under which a slot was written
 abbrev pub put_number : Request → Option Number
 put_number (Put row id n cell) = Some n
-put_number _ = None
+put_number (Share row id want) = None
+put_number (Claim row id how mask want) = None
+put_number (Confirm row id want) = None
+put_number (Release row id n) = None
+put_number Lose = None
+put_number Fit = None
 
 -- the number under which a slot was written
 abbrev pub write_number : Request → Reply → Option Number
 write_number what Done = put_number what
-write_number what _ = None
+write_number what (Granted cell read_no write_no last life seized) = None
+write_number what (Busy holder) = None
+write_number what (Late above) = None
+write_number what (Young note) = None
+write_number what (Missing floor) = None
+write_number what (Held cell) = None
+write_number what (NoNote life) = None
+write_number what Fault = None
+write_number what Emptied = None
+write_number what Fitted = None
 
 -- the note that a granted claim opens: it hands on the origin and the mask of the note that it seized
 abbrev pub claimed_note : Ask → Number → ℕ → Option Note → Note
-claimed_note ask id mask None = record { host = ask.host; id = id; origin = id; mask = mask; moment = ask.moment }
-claimed_note ask id mask (Some note) = record { host = ask.host; id = id; origin = note.origin; mask = note.mask; moment = ask.moment }
+claimed_note ask id mask None = note_of ask id id mask
+claimed_note ask id mask (Some note) = note_of ask id note.origin note.mask
 
 -- where a note comes from that is open after a granted request: from this claim, which seized what was open, or from before
 abbrev pub GrantedNote : Ask → Request → Option Note → Option Note → Note → Type 0
 GrantedNote ask (Claim row id how mask want) seized old note = (note ≡ claimed_note ask id mask seized) × (seized ≡ old)
-GrantedNote ask _ seized old note = old ≡ Some note
+GrantedNote ask (Share row id want) seized old note = old ≡ Some note
+GrantedNote ask (Confirm row id want) seized old note = old ≡ Some note
+GrantedNote ask (Put row id n cell) seized old note = old ≡ Some note
+GrantedNote ask (Release row id n) seized old note = old ≡ Some note
+GrantedNote ask Lose seized old note = old ≡ Some note
+GrantedNote ask Fit seized old note = old ≡ Some note
 
 -- the same for every reply
 abbrev pub NoteComes : Ask → Request → Reply → Option Note → Note → Type 0
 NoteComes ask what (Granted cell read_no write_no last life seized) old note = GrantedNote ask what seized old note
-NoteComes ask what _ old note = old ≡ Some note
+NoteComes ask what (Busy holder) old note = old ≡ Some note
+NoteComes ask what (Late above) old note = old ≡ Some note
+NoteComes ask what (Young note') old note = old ≡ Some note
+NoteComes ask what (Missing floor) old note = old ≡ Some note
+NoteComes ask what (Held cell) old note = old ≡ Some note
+NoteComes ask what (NoNote life) old note = old ≡ Some note
+NoteComes ask what Done old note = old ≡ Some note
+NoteComes ask what Fault old note = old ≡ Some note
+NoteComes ask what Emptied old note = old ≡ Some note
+NoteComes ask what Fitted old note = old ≡ Some note
 
 -- what a granted claim says of readers: a plain one, or one to mend, finds no other reader, and a seizure leaves none
 abbrev pub ClaimReaders : How → Number → Slot → Slot → Type 0
@@ -146,28 +209,48 @@ ClaimReaders Seize id slot left = left.readers ≡ []
 -- the same for every granted request
 abbrev pub GrantedReaders : Request → Slot → Slot → Type 0
 GrantedReaders (Claim row id how mask want) slot left = ClaimReaders how id slot left
-GrantedReaders _ slot left = Unit {0}
+GrantedReaders (Share row id want) slot left = Unit {0}
+GrantedReaders (Confirm row id want) slot left = Unit {0}
+GrantedReaders (Put row id n cell) slot left = Unit {0}
+GrantedReaders (Release row id n) slot left = Unit {0}
+GrantedReaders Lose slot left = Unit {0}
+GrantedReaders Fit slot left = Unit {0}
 
 -- a release that was done found a note or a reader of its id
 abbrev pub DoneReaders : Request → Slot → Type 0
 DoneReaders (Release row id n) slot = (note_id slot.note id || is_some (find (is_reader id) slot.readers)) ≡ true
-DoneReaders _ slot = Unit {0}
+DoneReaders (Share row id want) slot = Unit {0}
+DoneReaders (Claim row id how mask want) slot = Unit {0}
+DoneReaders (Confirm row id want) slot = Unit {0}
+DoneReaders (Put row id n cell) slot = Unit {0}
+DoneReaders Lose slot = Unit {0}
+DoneReaders Fit slot = Unit {0}
 
 -- the same for every reply
 abbrev pub ReadersStand : Request → Reply → Slot → Slot → Type 0
 ReadersStand what (Granted cell read_no write_no last life seized) slot left = GrantedReaders what slot left
 ReadersStand what Done slot left = DoneReaders what slot
-ReadersStand what _ slot left = Unit {0}
+ReadersStand what (Busy holder) slot left = Unit {0}
+ReadersStand what (Late above) slot left = Unit {0}
+ReadersStand what (Young note) slot left = Unit {0}
+ReadersStand what (Missing floor) slot left = Unit {0}
+ReadersStand what (Held cell) slot left = Unit {0}
+ReadersStand what (NoNote life) slot left = Unit {0}
+ReadersStand what Fault slot left = Unit {0}
+ReadersStand what Emptied slot left = Unit {0}
+ReadersStand what Fitted slot left = Unit {0}
 
--- what a request of a row does to its slot
-pub record IsStep (mode : Mode) (life : ℕ) (ask : Ask) (what : Request) (slot : Slot) (reply : Reply) (left : Slot) : Type 0 where
-  pub read_rises : slot.read_no.0 ≤ left.read_no.0
-  pub write_rises : slot.write_no.0 ≤ left.write_no.0
-  pub read_covered : (n : Number) → read_number mode slot.note what reply ≡ Some n → n.0 ≤ left.read_no.0
-  pub write_covered : (n : Number) → write_number what reply ≡ Some n → n.0 ≤ left.write_no.0
-  pub life_shown : (l : ℕ) → shown_life reply ≡ Some l → l ≡ life
-  pub note_comes : (note : Note) → left.note ≡ Some note → NoteComes ask what reply slot.note note
-  pub readers_stand : ReadersStand what reply slot left
+-- In a bay with this mode and life
+module _ (mode : Mode) (life : ℕ) where
+  -- what a request of a row does to its slot
+  pub record IsStep (ask : Ask) (what : Request) (slot : Slot) (reply : Reply) (left : Slot) : Type 0 where
+    pub read_rises : slot.read_no.0 ≤ left.read_no.0
+    pub write_rises : slot.write_no.0 ≤ left.write_no.0
+    pub read_covered : (n : Number) → read_number mode slot.note what reply ≡ Some n → n.0 ≤ left.read_no.0
+    pub write_covered : (n : Number) → write_number what reply ≡ Some n → n.0 ≤ left.write_no.0
+    pub life_shown : (l : ℕ) → shown_life reply ≡ Some l → l ≡ life
+    pub note_comes : (note : Note) → left.note ≡ Some note → NoteComes ask what reply slot.note note
+    pub readers_stand : ReadersStand what reply slot left
 
 -- whether a request is for this row
 abbrev pub is_row : RowNo → Option RowNo → Bool
@@ -183,7 +266,12 @@ SlotsStep =
 -- how often these entries lose a device
 abbrev pub loses : Bay → Request → ℕ
 loses bay Lose = if bay.empty then 0 else 1
-loses bay _ = 0
+loses bay (Share row id want) = 0
+loses bay (Claim row id how mask want) = 0
+loses bay (Confirm row id want) = 0
+loses bay (Put row id n cell) = 0
+loses bay (Release row id n) = 0
+loses bay Fit = 0
 
 -- the same for a run of entries
 abbrev pub losses : Bay → List Entry → ℕ
@@ -201,7 +289,16 @@ LivesTellLosses =
 -- the note that a grant seized
 abbrev pub seized_of : Reply → Option (Option Note)
 seized_of (Granted cell read_no write_no last life seized) = Some seized
-seized_of _ = None
+seized_of (Busy holder) = None
+seized_of (Late above) = None
+seized_of (Young note) = None
+seized_of (Missing floor) = None
+seized_of (Held cell) = None
+seized_of (NoNote life) = None
+seized_of Done = None
+seized_of Fault = None
+seized_of Emptied = None
+seized_of Fitted = None
 
 -- a granted claim of this row that seized no note, with this id and mask
 pub record Opens (row : RowNo) (origin : Number) (mask : ℕ) (ask : Ask) (reply : Reply) : Type 0 where

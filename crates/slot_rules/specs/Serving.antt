@@ -1,5 +1,5 @@
 -- One slot's part of the rule, and what of it needs the store.
-use Rattle.std.specs.Prelude.{◌≡◌, ℕ, ◌<◌, IfSome, IsSome, Bool, true, false, if◌then◌else◌, List, slice_set, Option, Some, None}
+use Rattle.std.specs.Prelude.{◌≡◌, ℕ, ◌<◌, ◌≤◌, IfSome, IsSome, Bool, true, false, if◌then◌else◌, List, length, slice_set, Option, Some, None}
 use Rattle.raid_base.specs.declared.cells.Cell.{Cell}
 use Rattle.raid_base.specs.declared.numbers.RowNo.{RowNo}
 use Rattle.raid_base.specs.declared.messages.Ask.{Ask}
@@ -13,6 +13,7 @@ use Rattle.slot_rules.specs.declared.slot.Verdict.{Verdict}
 use Rattle.slot_rules.specs.declared.slot.Verdict.TheVariants.{Say, NeedRead, NeedWrite}
 use Rattle.slot_rules.specs.Slots.{Slot, Bay, slot_of}
 use Rattle.slot_rules.specs.Rules.{SlotOutcome, keeps, share_rule, claim_rule, confirm_rule, put_rule, release_rule, rule}
+use Rattle.slot_rules.specs.Tables.{Table, with_blocks}
 
 -- one slot's part of the rule
 abbrev pub slot_rule : Bay → Slot → Ask → Bool → Request → SlotOutcome
@@ -27,7 +28,12 @@ slot_rule bay slot ask fails Fit = keeps slot Fitted
 -- whether a request is a put
 abbrev pub is_put : Request → Bool
 is_put (Put row id n cell) = true
-is_put _ = false
+is_put (Share row id want) = false
+is_put (Claim row id how mask want) = false
+is_put (Confirm row id want) = false
+is_put (Release row id n) = false
+is_put Lose = false
+is_put Fit = false
 
 -- what is asked of the store
 abbrev pub need : Request → Verdict
@@ -97,3 +103,28 @@ blocks_after Fit cell blocks = blocks
 pub record IsAskFor (rows : ℕ) (ask : Ask) : Type 0 where
   pub row : IfSome (row_of ask.what) (λ row. row.0 < rows)
   pub host : ask.host.0 < 16
+
+-- what the rule makes of an ask before the store is asked, whatever the blocks
+abbrev pub IsVerdictOf : Table → Ask → Verdict → Type 0
+IsVerdictOf slots ask verdict =
+    (blocks : List (List ℕ)) → verdict ≡ verdict_of (with_blocks slots blocks) ask
+
+-- the reply is the rule's, where this cell is the one that was read or written
+abbrev pub RepliesByRule : Table → Ask → Option Cell → Reply → Type 0
+RepliesByRule slots ask cell reply =
+    (blocks : List (List ℕ)) → cell ≡ served_cell (with_blocks slots blocks) ask →
+    reply ≡ (rule (with_blocks slots blocks) ask false).reply
+
+-- the slots and the store's blocks make up the rule's bay, where this cell is the one that was read or written
+abbrev pub LeavesByRule : Table → Ask → Option Cell → Table → Type 0
+LeavesByRule slots ask cell slots' =
+    (blocks : List (List ℕ)) → length slots.slots ≤ length blocks →
+    cell ≡ served_cell (with_blocks slots blocks) ask →
+    with_blocks slots' (blocks_after ask.what cell blocks)
+    ≡ (rule (with_blocks slots blocks) ask false).bay
+
+-- the reply fits the request, where this cell is the one that was read or written
+abbrev pub FitsWhereServed : Table → Ask → Option Cell → Reply → Type 0
+FitsWhereServed slots ask cell reply =
+    (blocks : List (List ℕ)) → cell ≡ served_cell (with_blocks slots blocks) ask →
+    fits ask.what reply ≡ true

@@ -39,6 +39,7 @@ bare_slot n = record { cell = None; read_no = n; write_no = n; last = number 0; 
 abbrev pub first_bay : Mode → ℕ → ℕ → Bay
 first_bay mode rows patience = record { mode = mode; patience = patience; empty = false; high = number 0; life = 0; slots = replicate rows first_slot }
 
+-- the slot of a row, or a blank one where there is no such row
 abbrev pub slot_of : Bay → RowNo → Slot
 slot_of bay row = slice_index_or bay.slots row.0 (bare_slot (number 0))
 

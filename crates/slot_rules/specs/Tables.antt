@@ -1,15 +1,17 @@
 -- What `Slots` keeps of a bay, and the bay that it makes up with the blocks of a store.
-use Rattle.std.specs.Prelude.{ℕ, ◌==◌, ◌||◌, not, Bool, List, [], ◌∷◌, length, Option, Some, None, is_some}
+use Rattle.std.specs.Prelude.{◌≡◌, ℕ, ◌==◌, ◌||◌, not, Bool, List, [], ◌∷◌, length, replicate, slice_index_or, take, Option, Some, None, is_some}
 use Rattle.raid_base.specs.declared.cells.Cell.{Cell}
 use Rattle.raid_base.specs.declared.numbers.Number.{Number}
 use Rattle.raid_base.specs.declared.numbers.RowNo.{RowNo}
+use Rattle.raid_base.specs.declared.messages.Mode.{Mode}
 use Rattle.raid_base.specs.declared.messages.Note.{Note}
+use Rattle.raid_base.specs.Cells.{zeros}
 use Rattle.raid_base.specs.Numbers.{number}
 use Rattle.slot_rules.specs.declared.slot.BayState.{BayState}
 use Rattle.slot_rules.specs.declared.slot.SlotState.{SlotState}
 use Rattle.slot_rules.specs.declared.opened.Open.{Open}
 use Rattle.slot_rules.specs.declared.Reader.{Reader}
-use Rattle.slot_rules.specs.Slots.{Slot, Bay}
+use Rattle.slot_rules.specs.Slots.{Slot, Bay, first_bay, slot_of}
 
 -- a slot, all but its block: it has a mark unless it is blank
 pub record Kept : Type 0 where
@@ -47,6 +49,10 @@ first_kept = record { mark = Some 0; read_no = number 0; write_no = number 0; la
 abbrev pub bare_kept : Number → Kept
 bare_kept n = record { mark = None; read_no = n; write_no = n; last = number 0; note = None; readers = [] }
 
+-- all of a row's slot but its block
+abbrev pub kept_of : List Kept → RowNo → Kept
+kept_of slots row = slice_index_or slots row.0 (bare_kept (number 0))
+
 -- the cell of a slot with this mark and this block: none where the slot is blank
 abbrev pub cell_of : Option ℕ → List ℕ → Option Cell
 cell_of None block = None
@@ -70,6 +76,16 @@ bay_of state slots = record { mode = state.mode; patience = state.patience; empt
 -- the bay that these make up with the blocks of a store
 abbrev pub with_blocks : Table → List (List ℕ) → Bay
 with_blocks table blocks = bay_of table.state (slots_with table.slots blocks)
+
+-- the slot of a row, over these blocks
+abbrev pub slot_over : Table → List (List ℕ) → RowNo → Slot
+slot_over table blocks row = slot_of (with_blocks table blocks) row
+
+-- over a store whose first blocks are zeros these slots make up the bay at the start
+abbrev pub MakesFirstBay : Mode → ℕ → ℕ → Table → Type 0
+MakesFirstBay mode rows patience table =
+    (blocks : List (List ℕ)) → take rows blocks ≡ replicate rows zeros →
+    with_blocks table blocks ≡ first_bay mode rows patience
 
 -- the lost of a cell, 0 where there is none
 abbrev pub lost_of : Option Cell → ℕ

@@ -20,13 +20,11 @@ pub struct OpenRows {
 }
 
 impl Model for OpenRows {
-    ghost use Rattle.std.specs.Prelude.{map, take};
-    ghost use Rattle.indexmap.specs.IndexMap.{keys};
-    ghost use Rattle.slot_rules.specs.Opens.{OpenTable, opens_of, row_no, KeepsFirst};
+    ghost use Rattle.slot_rules.specs.Opens.{OpenTable, table_of, KeepsFirst};
 
     ghost Value = { OpenTable };
 
-    ghost view = { λ t. record { order = map row_no (take t.count (keys t.entries)); opens = opens_of t.entries.entries } };
+    ghost view = { λ t. table_of t.entries.entries t.count };
 
     ghost invariant = { λ t. KeepsFirst t.entries.entries t.count };
 }
@@ -68,9 +66,9 @@ fn settle(entries: &mut IndexMap<u16, Open>, count: u16, place: usize) -> u16
 }
 
 impl OpenRows {
-    ghost use Rattle.std.specs.Prelude.{IfOk, [], slice_index_or, slice_set, replicate, map};
-    ghost use Rattle.slot_rules.specs.Tables.{closed, kept_slot};
-    ghost use Rattle.slot_rules.specs.Opens.{Lists, is_open_at};
+    ghost use Rattle.std.specs.Prelude.{IfOk, [], replicate, map};
+    ghost use Rattle.slot_rules.specs.Tables.{closed};
+    ghost use Rattle.slot_rules.specs.Opens.{Lists, is_open_at, opened_on, kept_on, KeepsOthers};
     ghost use Rattle.slot_rules.specs.Parts.{ServedSlot};
 
     /// So many rows, on which nothing is open. All memory is taken here.
@@ -88,7 +86,7 @@ impl OpenRows {
     /// What is open on a row.
     pub fn at(&self, row: u16) -> &Open
         requires { row < length self.now.opens }
-        ensures { result.now ≡ slice_index_or self.now.opens row closed }
+        ensures { result.now ≡ opened_on self.now.opens row }
     {
         match self.entries.get(&row) {
             Some(opened) => opened,
@@ -107,8 +105,9 @@ impl OpenRows {
     ) -> Reply
         requires row { row < length self.old.opens }
         requires host { ask.now.host.0 < 16 }
-        ensures served { ServedSlot state.now ask.now cell (kept_slot slot.old (slice_index_or self.old.opens row closed)) result (kept_slot slot.new (slice_index_or self.new.opens row closed)) }
-        ensures others { self.new.opens ≡ slice_set self.old.opens row (slice_index_or self.new.opens row closed) }
+        ensures served { ServedSlot state.now ask.now cell
+            (kept_on slot.old self.old row) result (kept_on slot.new self.new row) }
+        ensures others { KeepsOthers row self.old self.new }
     {
         let place = place_of(&self.entries, row);
         let reply = slot.serve(&mut self.entries[place], state, ask, cell);

@@ -14,15 +14,11 @@ pub struct Open {
 }
 
 impl Open {
-    ghost use Rattle.std.specs.Prelude.{◌<◌, List, ℕ, Option, None, Some, IsTrue, find};
-    ghost use Rattle.raid_base.specs.declared.numbers.Number.{Number};
-    ghost use Rattle.raid_base.specs.declared.messages.Mode.{Mode};
-    ghost use Rattle.slot_rules.specs.declared.slot.BayState.{BayState};
-    ghost use Rattle.slot_rules.specs.declared.slot.SlotState.{SlotState};
-    ghost use Rattle.slot_rules.specs.Slots.{Slot};
-    ghost use Rattle.slot_rules.specs.Rules.{is_same_host, note_id, is_reader, with_reader, release_rule};
-    ghost use Rattle.slot_rules.specs.Tables.{bay_of, with_block, kept_slot, closed, is_open};
-    ghost use Rattle.slot_rules.specs.Parts.{RefusesShareBy, is_refusal};
+    ghost use Rattle.std.specs.Prelude.{◌<◌, None, Some, IsTrue};
+    ghost use Rattle.slot_rules.specs.Rules.{note_id, note_of};
+    ghost use Rattle.slot_rules.specs.Tables.{closed, is_open};
+    ghost use Rattle.slot_rules.specs.Parts.{RefusesUnderLocks, IsAlone, IsReleaseReply};
+    ghost use Rattle.slot_rules.specs.Parts.{admitted, is_refusal};
 
     /// Nothing is open.
     pub fn closed() -> Open
@@ -61,9 +57,9 @@ impl Open {
 
     /// How a share is refused under locks, where the slot isn't missing.
     pub fn share_refusal(&self, ask: &Ask, id: Number) -> Option<Reply>
-        ensures refused { (state : BayState) (slot : SlotState) → RefusesShareBy Mode.Lock state (kept_slot slot self.now) ask.now id result }
+        ensures refused { RefusesUnderLocks self.now ask.now id result }
         ensures refusal { IsTrue (is_refusal result) }
-        ensures alone { result ≡ None → find (is_same_host ask.now id) self.now.readers ≡ None }
+        ensures alone { result ≡ None → IsAlone ask.now id self.now }
     {
         if let Some(holder) = self.note {
             return Some(Reply::Busy { holder });
@@ -78,7 +74,7 @@ impl Open {
 
     /// What a release answers.
     pub fn release_reply(&self, state: &BayState, id: Number) -> Reply
-        ensures { (slot : SlotState) (others : List Slot) (block : List ℕ) (n : Option Number) → result ≡ (release_rule (bay_of state.now others) (with_block (kept_slot slot self.now) block) id n).reply }
+        ensures { IsReleaseReply state.now self.now id result }
     {
         if self.has_note(id) {
             return Reply::Done;
@@ -92,8 +88,8 @@ impl Open {
     /// Lets the ask's host in as a reader, unless it is one.
     pub fn admit(&mut self, ask: &Ask, id: Number)
         requires host { ask.now.host.0 < 16 }
-        requires alone { find (is_same_host ask.now id) self.old.readers ≡ None }
-        ensures { self.new ≡ record self.old { readers = with_reader ask.now id (find (is_reader id) self.old.readers) self.old.readers } }
+        requires alone { IsAlone ask.now id self.old }
+        ensures { self.new ≡ admitted ask.now id self.old }
     {
         if self.readers.with_id(id).is_none() {
             self.readers.add(Reader {
@@ -106,7 +102,7 @@ impl Open {
 
     /// Opens a note of the ask, with this origin and mask.
     pub fn open_note(&mut self, ask: &Ask, id: Number, origin: Number, mask: u16)
-        ensures { self.new ≡ record self.old { note = Some (record { host = ask.now.host; id = id; origin = origin; mask = mask; moment = ask.now.moment }) } }
+        ensures { self.new ≡ record self.old { note = Some (note_of ask.now id origin mask) } }
     {
         self.note = Some(Note {
             host: ask.host,

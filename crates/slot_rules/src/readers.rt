@@ -1,6 +1,6 @@
 //! The hosts that read one slot under locks.
 ghost use Rattle.std.specs.Prelude.{◌≡◌, ◌<◌, ◌==◌, ◌++◌, ◌∷◌, [], not, find, length};
-ghost use Rattle.slot_rules.specs.Readers.{is_old_or_own, is_of_host};
+ghost use Rattle.slot_rules.specs.Readers.{is_old_or_own, is_of_host, young_reader};
 ghost use Rattle.slot_rules.specs.Rules.{is_reader, is_same_host, other_readers};
 
 use crate::Reader;
@@ -90,7 +90,7 @@ impl Readers {
 
     /// The first reader that the ask may not put aside: one of another host that came less than `patience` moments ago.
     pub fn young(&self, ask: &Ask, patience: u64) -> Option<Reader>
-        ensures { result ≡ find (λ reader. not (is_old_or_own patience ask.now reader.host reader.moment)) self.now }
+        ensures { result ≡ young_reader patience ask.now self.now }
     {
         self.readers
             .iter()

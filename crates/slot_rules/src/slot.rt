@@ -48,25 +48,22 @@ pub struct SlotState {
 }
 
 impl SlotState {
-    ghost use Rattle.slot_rules.specs.Tables.{kept_slot};
-    ghost use Rattle.slot_rules.specs.Serving.{row_of};
-    ghost use Rattle.slot_rules.specs.Parts.{ServedSlot};
-    ghost use Rattle.std.specs.Prelude.{◌≡◌, ◌<◌, ◌&&◌, List, ℕ, Bool, Option, true, false, None, Some, is_some, IsTrue, find, if◌then◌else◌};
-    ghost use Rattle.raid_base.specs.declared.messages.Ask.{Ask};
-    ghost use Rattle.raid_base.specs.declared.numbers.Number.{Number};
+    ghost use Rattle.std.specs.Prelude.{◌≡◌, ◌<◌, ◌&&◌, ℕ, None, is_some, IsTrue, false};
     ghost use Rattle.raid_base.specs.declared.numbers.RowNo.{RowNo};
-    ghost use Rattle.raid_base.specs.Replies.{is_done};
-    ghost use Rattle.slot_rules.specs.declared.slot.BayState.{BayState};
     ghost use Rattle.slot_rules.specs.declared.opened.Open.{Open};
-    ghost use Rattle.slot_rules.specs.Slots.{Slot};
-    ghost use Rattle.slot_rules.specs.Rules.{missing_floor, is_same_host, is_late, note_id, is_reader, with_reader, share_rule, claim_rule, seize_rule, confirm_rule, put_rule, release_rule};
-    ghost use Rattle.slot_rules.specs.Tables.{bay_of, with_block};
-    ghost use Rattle.slot_rules.specs.Serving.{verdict_for, slot_rule};
-    ghost use Rattle.slot_rules.specs.Parts.{RefusesShareBy, RefusesShare, RefusesClaimThere, RefusesClaim, RefusesSeize, RefusesConfirm, is_refusal, verdict_after, Served};
+    ghost use Rattle.slot_rules.specs.Rules.{share_rule, claim_rule, seize_rule, confirm_rule};
+    ghost use Rattle.slot_rules.specs.Rules.{put_rule, release_rule};
+    ghost use Rattle.slot_rules.specs.Tables.{kept_slot};
+    ghost use Rattle.slot_rules.specs.Parts.{IsFloorOf, IsWhetherLate, IsAlone, IsSlotVerdict};
+    ghost use Rattle.slot_rules.specs.Parts.{RefusesUnderStamps, RefusesShare, RefusesClaimAt};
+    ghost use Rattle.slot_rules.specs.Parts.{RefusesPlain, RefusesMend, RefusesSeize};
+    ghost use Rattle.slot_rules.specs.Parts.{RefusesConfirm, is_refusal, grant_reply};
+    ghost use Rattle.slot_rules.specs.Parts.{verdict_after, block_put, ServedBy, DoneBy};
+    ghost use Rattle.slot_rules.specs.Parts.{ServedSlot};
 
     /// The floor with which it answers where it is missing.
     fn missing_floor(&self, state: &BayState) -> Option<Number>
-        ensures { (open_row : Open) (others : List Slot) (block : List ℕ) → result ≡ missing_floor (bay_of state.now others) (with_block (kept_slot self.now open_row) block) }
+        ensures { (open_row : Open) → IsFloorOf state.now (kept_slot self.now open_row) result }
     {
         if state.empty {
             return Some(state.high);
@@ -79,7 +76,7 @@ impl SlotState {
 
     /// How a share is refused under stamps, where the slot isn't missing.
     fn share_refusal_order(&self, opened: &Open, id: Number) -> Option<Reply>
-        ensures refused { (state : BayState) (ask : Ask) → RefusesShareBy Mode.Order state (kept_slot self.now opened.now) ask id result }
+        ensures refused { RefusesUnderStamps (kept_slot self.now opened.now) id result }
         ensures refusal { IsTrue (is_refusal result) }
     {
         if let Some(holder) = opened.note {
@@ -99,7 +96,8 @@ impl SlotState {
     fn share_refusal(&self, opened: &Open, state: &BayState, ask: &Ask, id: Number) -> Option<Reply>
         ensures refused { RefusesShare state.now (kept_slot self.now opened.now) ask.now id result }
         ensures refusal { IsTrue (is_refusal result) }
-        ensures alone { state.now.mode ≡ Mode.Lock → result ≡ None → find (is_same_host ask.now id) opened.now.readers ≡ None }
+        ensures alone { state.now.mode ≡ Mode.Lock → result ≡ None
+            → IsAlone ask.now id opened.now }
     {
         if let Some(floor) = self.missing_floor(state) {
             return Some(Reply::Missing { floor });
@@ -112,7 +110,7 @@ impl SlotState {
 
     /// Whether a claim is late: a plain one under stamps, unless its id is above both numbers of the slot.
     fn is_late(&self, how: How, mode: Mode, id: Number) -> bool
-        ensures { (open_row : Open) (block : List ℕ) → result ≡ is_late how mode id (with_block (kept_slot self.now open_row) block) }
+        ensures { IsWhetherLate how mode id self.now result }
     {
         match how {
             How::Plain => match mode {
@@ -132,7 +130,7 @@ impl SlotState {
         id: Number,
         how: How,
     ) -> Option<Reply>
-        ensures refused { RefusesClaimThere state.now (kept_slot self.now opened.now) id how result }
+        ensures refused { RefusesClaimAt state.now (kept_slot self.now opened.now) id how result }
         ensures refusal { IsTrue (is_refusal result) }
     {
         if let Some(holder) = opened.note {
@@ -153,7 +151,7 @@ impl SlotState {
 
     /// How a plain claim is refused.
     fn claim_refusal(&self, opened: &Open, state: &BayState, ask: &Ask, id: Number) -> Option<Reply>
-        ensures refused { RefusesClaim state.now (kept_slot self.now opened.now) ask.now id How.Plain result }
+        ensures refused { RefusesPlain state.now (kept_slot self.now opened.now) ask.now id result }
         ensures refusal { IsTrue (is_refusal result) }
     {
         match self.missing_floor(state) {
@@ -164,7 +162,7 @@ impl SlotState {
 
     /// How a claim to mend is refused. It takes a blank slot too.
     fn mend_refusal(&self, opened: &Open, state: &BayState, ask: &Ask, id: Number) -> Option<Reply>
-        ensures refused { RefusesClaim state.now (kept_slot self.now opened.now) ask.now id How.Mend result }
+        ensures refused { RefusesMend state.now (kept_slot self.now opened.now) ask.now id result }
         ensures refusal { IsTrue (is_refusal result) }
     {
         if state.empty {
@@ -175,7 +173,7 @@ impl SlotState {
 
     /// How a seizure is refused.
     fn seize_refusal(&self, opened: &Open, state: &BayState, ask: &Ask) -> Option<Reply>
-        ensures refused { (id : Number) → RefusesSeize state.now (kept_slot self.now opened.now) ask.now id result }
+        ensures refused { RefusesSeize state.now (kept_slot self.now opened.now) ask.now result }
         ensures refusal { IsTrue (is_refusal result) }
     {
         if state.empty {
@@ -215,7 +213,7 @@ impl SlotState {
 
     /// The reply to a request that is granted, with this cell and the note that it seized.
     fn granted(&self, state: &BayState, cell: Option<Cell>, seized: Option<Note>) -> Reply
-        ensures { result ≡ Reply.Granted cell self.now.read_no self.now.write_no self.now.last state.now.life seized }
+        ensures { result ≡ grant_reply state.now self.now cell seized }
     {
         Reply::Granted {
             cell,
@@ -245,7 +243,8 @@ impl SlotState {
 
     /// What the rule makes of an ask of this slot before the store is asked.
     pub fn judge(&self, opened: &Open, state: &BayState, ask: &Ask) -> Verdict
-        ensures { (others : List Slot) (block : List ℕ) → result ≡ verdict_for ask.now.what (slot_rule (bay_of state.now others) (with_block (kept_slot self.now opened.now) block) ask.now true ask.now.what).reply }
+        ensures { IsSlotVerdict state.now (kept_slot self.now opened.now) ask.now
+            ask.now.what result }
     {
         match ask.what {
             Request::Share { id, want, .. } => {
@@ -281,7 +280,9 @@ impl SlotState {
         how: How,
         want: bool,
     ) -> Verdict
-        ensures { (row : RowNo) (mask : ℕ) (others : List Slot) (block : List ℕ) → result ≡ verdict_for (Request.Claim row id how mask want) (claim_rule how (bay_of state.now others) (with_block (kept_slot self.now opened.now) block) ask.now id mask want true).reply }
+        ensures { (row : RowNo) (mask : ℕ) →
+            IsSlotVerdict state.now (kept_slot self.now opened.now) ask.now
+            (Request.Claim row id how mask want) result }
     {
         match how {
             How::Plain => {
@@ -309,7 +310,8 @@ impl SlotState {
         cell: Option<Cell>,
     ) -> Reply
         requires { ask.now.host.0 < 16 }
-        ensures { (others : List Slot) (block : List ℕ) (want : Bool) → Served (λ fails. share_rule (bay_of state.now others) (with_block (kept_slot self.old opened.old) block) ask.now id want fails) (with_block (kept_slot self.old opened.old) block).cell cell result (with_block (kept_slot self.new opened.new) block) }
+        ensures { ServedBy (λ bay slot. share_rule bay slot ask.now id)
+            state.now cell (kept_slot self.old opened.old) result (kept_slot self.new opened.new) }
     {
         if let Some(refusal) = self.share_refusal(opened, state, ask, id) {
             return refusal;
@@ -332,7 +334,8 @@ impl SlotState {
         mask: u16,
         cell: Option<Cell>,
     ) -> Reply
-        ensures { (others : List Slot) (block : List ℕ) (want : Bool) → Served (λ fails. claim_rule How.Plain (bay_of state.now others) (with_block (kept_slot self.now opened.old) block) ask.now id mask want fails) (with_block (kept_slot self.now opened.old) block).cell cell result (with_block (kept_slot self.now opened.new) block) }
+        ensures { ServedBy (λ bay slot. claim_rule How.Plain bay slot ask.now id mask)
+            state.now cell (kept_slot self.now opened.old) result (kept_slot self.now opened.new) }
     {
         if let Some(refusal) = self.claim_refusal(opened, state, ask, id) {
             return refusal;
@@ -353,7 +356,8 @@ impl SlotState {
         mask: u16,
         cell: Option<Cell>,
     ) -> Reply
-        ensures { (others : List Slot) (block : List ℕ) (want : Bool) → Served (λ fails. claim_rule How.Mend (bay_of state.now others) (with_block (kept_slot self.now opened.old) block) ask.now id mask want fails) (with_block (kept_slot self.now opened.old) block).cell cell result (with_block (kept_slot self.now opened.new) block) }
+        ensures { ServedBy (λ bay slot. claim_rule How.Mend bay slot ask.now id mask)
+            state.now cell (kept_slot self.now opened.old) result (kept_slot self.now opened.new) }
     {
         if let Some(refusal) = self.mend_refusal(opened, state, ask, id) {
             return refusal;
@@ -374,7 +378,8 @@ impl SlotState {
         mask: u16,
         cell: Option<Cell>,
     ) -> Reply
-        ensures { (others : List Slot) (block : List ℕ) (want : Bool) → Served (λ fails. seize_rule (bay_of state.now others) (with_block (kept_slot self.now opened.old) block) ask.now id mask want fails) (with_block (kept_slot self.now opened.old) block).cell cell result (with_block (kept_slot self.now opened.new) block) }
+        ensures { ServedBy (λ bay slot. seize_rule bay slot ask.now id mask)
+            state.now cell (kept_slot self.now opened.old) result (kept_slot self.now opened.new) }
     {
         if let Some(refusal) = self.seize_refusal(opened, state, ask) {
             if refusal.is_missing() && !state.empty {
@@ -393,7 +398,8 @@ impl SlotState {
 
     /// Serves a confirm, showing this cell.
     fn confirm(&self, opened: &Open, state: &BayState, id: Number, cell: Option<Cell>) -> Reply
-        ensures { (others : List Slot) (block : List ℕ) (want : Bool) → Served (λ fails. confirm_rule (bay_of state.now others) (with_block (kept_slot self.now opened.now) block) id want fails) (with_block (kept_slot self.now opened.now) block).cell cell result (with_block (kept_slot self.now opened.now) block) }
+        ensures { ServedBy (λ bay slot. confirm_rule bay slot id)
+            state.now cell (kept_slot self.now opened.now) result (kept_slot self.now opened.now) }
     {
         match self.confirm_refusal(opened, state, id) {
             Some(refusal) => refusal,
@@ -410,7 +416,9 @@ impl SlotState {
         number: Number,
         cell: Cell,
     ) -> Reply
-        ensures { (others : List Slot) (block : List ℕ) → (result ≡ (put_rule (bay_of state.now others) (with_block (kept_slot self.old opened.old) block) id number cell false).reply) × (with_block (kept_slot self.new opened.new) (if note_id opened.old.note id then cell.bytes else block) ≡ (put_rule (bay_of state.now others) (with_block (kept_slot self.old opened.old) block) id number cell false).slot) }
+        ensures { DoneBy (λ bay slot. put_rule bay slot id number cell false)
+            (block_put opened.old.note id cell) state.now
+            (kept_slot self.old opened.old) result (kept_slot self.new opened.new) }
     {
         if !opened.has_note(id) {
             return Reply::NoNote { life: state.life };
@@ -430,7 +438,8 @@ impl SlotState {
         id: Number,
         number: Option<Number>,
     ) -> Reply
-        ensures { (others : List Slot) (block : List ℕ) → (result ≡ (release_rule (bay_of state.now others) (with_block (kept_slot self.old opened.old) block) id number).reply) × (with_block (kept_slot self.new opened.new) block ≡ (release_rule (bay_of state.now others) (with_block (kept_slot self.old opened.old) block) id number).slot) }
+        ensures { DoneBy (λ bay slot. release_rule bay slot id number) (λ block. block) state.now
+            (kept_slot self.old opened.old) result (kept_slot self.new opened.new) }
     {
         if opened.has_note(id) {
             opened.note = None;
@@ -455,7 +464,8 @@ impl SlotState {
         cell: Option<Cell>,
     ) -> Reply
         requires { ask.now.host.0 < 16 }
-        ensures { ServedSlot state.now ask.now cell (kept_slot self.old opened.old) result (kept_slot self.new opened.new) }
+        ensures { ServedSlot state.now ask.now cell
+            (kept_slot self.old opened.old) result (kept_slot self.new opened.new) }
     {
         match ask.what {
             Request::Share { id, .. } => self.share(opened, state, ask, id, cell),
@@ -485,7 +495,8 @@ impl SlotState {
         mask: u16,
         cell: Option<Cell>,
     ) -> Reply
-        ensures { (others : List Slot) (block : List ℕ) (want : Bool) → Served (λ fails. claim_rule how (bay_of state.now others) (with_block (kept_slot self.now opened.old) block) ask.now id mask want fails) (with_block (kept_slot self.now opened.old) block).cell cell result (with_block (kept_slot self.now opened.new) block) }
+        ensures { ServedBy (λ bay slot. claim_rule how bay slot ask.now id mask)
+            state.now cell (kept_slot self.now opened.old) result (kept_slot self.now opened.new) }
     {
         match how {
             How::Plain => self.claim(opened, state, ask, id, mask, cell),

@@ -124,30 +124,26 @@ pub struct Slots {
 
 impl Model for Slots {
     ghost use Rattle.slot_rules.specs.Tables.{Table};
-    ghost use Rattle.slot_rules.specs.Opens.{slots_kept, Keeping};
+    ghost use Rattle.slot_rules.specs.Opens.{table_kept, Keeping};
 
     ghost Value = { Table };
 
-    ghost view = { λ s. record { state = s.state; slots = slots_kept s.state.life s.bare s.rows.items s.open_rows.opens; order = s.open_rows.order } };
+    ghost view = { λ s. table_kept s.state s.bare s.rows.items s.open_rows };
 
     ghost invariant = { λ s. Keeping s.state.life s.state.empty s.rows.items s.open_rows.opens };
 }
 
 impl Slots {
-    ghost use Rattle.std.specs.Prelude.{◌≡◌, ◌≤◌, ◌<◌, ◌-◌, ◌^◌, ℕ, List, IfOk, IfSome, length, slice_index_or, slice_get, Some, replicate, take, true, false, is_none};
-    ghost use Rattle.raid_base.specs.Cells.{zeros};
-    ghost use Rattle.raid_base.specs.Fits.{fits};
-    ghost use Rattle.slot_rules.specs.Slots.{first_bay, slot_of};
-    ghost use Rattle.slot_rules.specs.Rules.{rule};
-    ghost use Rattle.slot_rules.specs.Tables.{with_blocks, lost_of, bare_kept};
+    ghost use Rattle.std.specs.Prelude.{◌≡◌, ◌<◌, ◌-◌, ◌^◌, ℕ, List, IfOk, length, slice_get, Some, is_none};
+    ghost use Rattle.slot_rules.specs.Tables.{MakesFirstBay, kept_of, slot_over, lost_of};
     ghost use Rattle.slot_rules.specs.Opens.{ListsOpen, open_part, figures};
-    ghost use Rattle.raid_base.specs.Numbers.{number};
-    ghost use Rattle.slot_rules.specs.Serving.{IsAskFor, IsVerdict, verdict_of, served_cell, blocks_after, row_of};
+    ghost use Rattle.slot_rules.specs.Serving.{IsAskFor, IsVerdict, IsVerdictOf, row_of};
+    ghost use Rattle.slot_rules.specs.Serving.{RepliesByRule, LeavesByRule, FitsWhereServed};
     ghost use Rattle.slot_rules.specs.Parts.{ServedRow, table_lost, table_fitted, device_reply, device_after};
 
     /// The slots at the start, over a store whose first blocks are zeros: none is blank, and all numbers are 0. All memory is taken here.
     pub fn make(alloc: Global, mode: Mode, rows: u16, patience: u64) -> Result<Slots, NoMemory>
-        ensures first { IfOk result (λ slots. (blocks : List (List ℕ)) → take rows blocks ≡ replicate rows zeros → with_blocks slots blocks ≡ first_bay mode rows patience) }
+        ensures first { IfOk result (λ slots. MakesFirstBay mode rows patience slots) }
         ensures rows { IfOk result (λ slots. length slots.slots ≡ rows) }
     {
         let open_rows = OpenRows::make(alloc, rows)?;
@@ -198,7 +194,7 @@ impl Slots {
     /// The open note.
     pub fn note(&self, row: RowNo) -> Option<Note>
         requires { row.0 < length self.now.slots }
-        ensures { (blocks : List (List ℕ)) → result ≡ (slot_of (with_blocks self.now blocks) row).note }
+        ensures { (blocks : List (List ℕ)) → result ≡ (slot_over self.now blocks row).note }
     {
         self.opened(row).note
     }
@@ -206,7 +202,7 @@ impl Slots {
     /// Whether the slot is missing: it has no cell. A bay without a device has no cells at all.
     pub fn blank(&self, row: RowNo) -> bool
         requires { row.0 < length self.now.slots }
-        ensures { (blocks : List (List ℕ)) → result ≡ is_none (slot_of (with_blocks self.now blocks) row).cell }
+        ensures { (blocks : List (List ℕ)) → result ≡ is_none (slot_over self.now blocks row).cell }
     {
         self.slot(row).mark.is_none()
     }
@@ -214,7 +210,7 @@ impl Slots {
     /// The `lost` of the slot's cell, 0 where the slot is missing.
     pub fn mark(&self, row: RowNo) -> u16
         requires { row.0 < length self.now.slots }
-        ensures { (blocks : List (List ℕ)) → result ≡ lost_of (slot_of (with_blocks self.now blocks) row).cell }
+        ensures { (blocks : List (List ℕ)) → result ≡ lost_of (slot_over self.now blocks row).cell }
     {
         self.slot(row).mark.unwrap_or(0)
     }
@@ -238,7 +234,7 @@ impl Slots {
     /// The mark and the numbers of a row's slot.
     fn slot(&self, row: RowNo) -> SlotState
         requires { row.0 < length self.now.slots }
-        ensures { result ≡ figures (slice_index_or self.now.slots row.0 (bare_kept (number 0))) }
+        ensures { result ≡ figures (kept_of self.now.slots row) }
     {
         self.rows[usize::from(row.0)].slot(self.state.life, self.bare)
     }
@@ -246,7 +242,7 @@ impl Slots {
     /// What is open on a row.
     fn opened(&self, row: RowNo) -> &Open
         requires { row.0 < length self.now.slots }
-        ensures { result.now ≡ open_part (slice_index_or self.now.slots row.0 (bare_kept (number 0))) }
+        ensures { result.now ≡ open_part (kept_of self.now.slots row) }
     {
         self.open_rows.at(row.0)
     }
@@ -256,7 +252,7 @@ impl Slots {
     /// The verdict is the same whatever the blocks.
     pub fn judge(&self, ask: &Ask) -> Verdict
         requires { IsAskFor (length self.now.slots) ask.now }
-        ensures verdict { (blocks : List (List ℕ)) → result ≡ verdict_of (with_blocks self.now blocks) ask.now }
+        ensures verdict { IsVerdictOf self.now ask.now result }
         ensures shape { IsVerdict ask.now.what result }
     {
         match row_of(ask.what) {
@@ -270,9 +266,9 @@ impl Slots {
     pub fn apply(&mut self, ask: &Ask, cell: Option<Cell>) -> Reply
         requires ask { IsAskFor (length self.old.slots) ask.now }
         requires life { ask.now.what ≡ Request.Lose → self.old.state.life < 2 ^ 32 - 1 }
-        ensures reply { (blocks : List (List ℕ)) → cell ≡ served_cell (with_blocks self.old blocks) ask.now → result ≡ (rule (with_blocks self.old blocks) ask.now false).reply }
-        ensures bay { (blocks : List (List ℕ)) → length self.old.slots ≤ length blocks → cell ≡ served_cell (with_blocks self.old blocks) ask.now → with_blocks self.new (blocks_after ask.now.what cell blocks) ≡ (rule (with_blocks self.old blocks) ask.now false).bay }
-        ensures fits { (blocks : List (List ℕ)) → cell ≡ served_cell (with_blocks self.old blocks) ask.now → fits ask.now.what result ≡ true }
+        ensures reply { RepliesByRule self.old ask.now cell result }
+        ensures bay { LeavesByRule self.old ask.now cell self.new }
+        ensures fits { FitsWhereServed self.old ask.now cell result }
         ensures rows { length self.new.slots ≡ length self.old.slots }
     {
         match row_of(ask.what) {
