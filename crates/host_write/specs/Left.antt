@@ -31,6 +31,7 @@ confirms_of a t k = confirm_rows a t.before (drop (k + 1) t.before)
 abbrev pub puts_of : Access → Number → List Row → ℕ → Puts → Steps Finish
 puts_of a n rows k = put_rows a n (write_last a n rows) (drop (k + 1) rows)
 
+-- what is left at a stage, with these errands to ask first
 abbrev pub left_of : WriteStage → Access → Taken → List Row → Puts → List Errand → Steps Finish
 left_of stages.ClaimParity a t rows puts errands = bind (run (claiming a with_parity) errands t) (parity_claimed a (rest_of a t))
 left_of stages.ClaimWanted a t rows puts errands = bind (run (claiming a with_wanted) errands t) (row_claimed a (rest_of a t))

@@ -1,6 +1,10 @@
 pub mod Troubles
 pub mod Lives
+pub mod Errands
+pub mod Rows
+pub mod Blocks
 pub mod Stages
 pub mod Left
+pub mod Aheads
 pub mod Answers
 pub mod Tries

@@ -12,6 +12,7 @@ use Rattle.host_write.specs.declared.stages.WriteStage.TheVariants.{ClaimParity,
 abbrev pub is_row : ℕ → ℕ → Row → Bool
 is_row n total row = is_part n total row.part && nat_le (length row.wanted) 16 && nat_le (length row.others) 16
 
+-- at most eight such rows
 abbrev pub are_rows : ℕ → ℕ → List Row → Bool
 are_rows n total rows = nat_le (length rows) 8 && list_all (is_row n total) rows
 

@@ -1,11 +1,13 @@
 //! What the replies to puts make of a write.
 ghost use Rattle.std.specs.Prelude.{◌≡◌, ℕ, List, [], ◌∷◌, ◌++◌, ◌+◌, ◌-◌, ◌*◌, ◌<◌, ◌≤◌, Some, None, true, false, if◌then◌else◌, length, map, zip};
 ghost use Rattle.arrayvec.specs.ArrayVec.{array_vec_len};
-ghost use Rattle.raid_base.specs.Replies.{is_fault, put_end};
+ghost use Rattle.raid_base.specs.Replies.{is_fault};
 ghost use Rattle.stripe_layout.specs.Placement.{units_in};
 ghost use Rattle.host_write.specs.Lives.{life_at};
-ghost use Rattle.attempts.specs.Accesses.{access_of};
-ghost use Rattle.attempts.specs.Puts.{Faulted, Robbed, with_trouble, life_in, missing_units, parity_units, data_put_by, parity_put_by};
+ghost use Rattle.host_write.specs.Blocks.{TakesPut, data_taken, parity_taken};
+ghost use Rattle.host_write.specs.Rows.{units_by_parity};
+ghost use Rattle.host_write.specs.Troubles.{trouble_by};
+ghost use Rattle.attempts.specs.Puts.{with_trouble, life_in, missing_units};
 
 use crate::puts::Puts;
 use arrayvec::ArrayVec;
@@ -50,7 +52,7 @@ pub fn data_answered(job: &Assignment, row: &Row, puts: &mut Puts, unit: u8, rep
     requires made { length puts.old.made < 400 }
     requires left { length puts.old.left < 16 }
     requires troubles { length puts.old.troubles < 128 }
-    ensures value { (blocks : List (List ℕ)) → data_put_by (access_of job.now blocks) row.now puts.old unit (put_end reply.now) ≡ (if result then Some puts.new else None) }
+    ensures value { TakesPut job.now (data_taken row.now unit reply.now puts.old) result puts.new }
     ensures same { result ≡ false → puts.new ≡ puts.old }
     ensures made { length puts.new.made ≤ length puts.old.made + 1 }
     ensures left { length puts.new.left ≤ length puts.old.left + 1 }
@@ -103,7 +105,7 @@ fn push_missing(missing: &mut ArrayVec<u8, 32>, unit: u8, grant: Option<Grant>)
 /// The units that the parity makes: those that are missing, and those left to it.
 fn parity_units(job: &Assignment, row: &Row, left: &[u8]) -> ArrayVec<u8, 32>
     requires { length left.now ≤ 15 }
-    ensures value { result.items ≡ missing_units (zip (units_in job.now.n row.now.part.mask) row.now.wanted) ++ left.now }
+    ensures value { result.items ≡ units_by_parity job.now.n row.now left.now }
     ensures few { array_vec_len result ≤ 30 }
 {
     let wanted = units_in(job.n, row.part().mask);
@@ -119,7 +121,7 @@ pub fn parity_answered(job: &Assignment, row: &Row, puts: &mut Puts, reply: &Rep
     requires at { row.now.part.at + length (units_in job.now.n row.now.part.mask) < 128 }
     requires made { length puts.old.made + 30 ≤ 400 }
     requires left { length puts.old.left ≤ 15 }
-    ensures value { (blocks : List (List ℕ)) → parity_put_by (access_of job.now blocks) row.now puts.old (put_end reply.now) ≡ (if result then Some puts.new else None) }
+    ensures value { TakesPut job.now (parity_taken row.now reply.now puts.old) result puts.new }
     ensures same { result ≡ false → puts.new ≡ puts.old }
     ensures made { length puts.new.made ≤ length puts.old.made + 30 }
     ensures troubles { length puts.new.troubles ≡ length puts.old.troubles }
@@ -144,7 +146,7 @@ fn is_fault(reply: &Reply) -> bool
 /// Notes a put that stops its row.
 pub fn add_trouble(puts: &mut Puts, part: RowPart, bay: BayNo, reply: &Reply)
     requires { length puts.old.troubles < 128 }
-    ensures { puts.new ≡ with_trouble puts.old (if is_fault reply.now then Faulted bay else Robbed part) }
+    ensures { puts.new ≡ with_trouble puts.old (trouble_by reply.now bay part) }
 {
     if is_fault(reply) {
         puts.trouble(Some(bay), part);

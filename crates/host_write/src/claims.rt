@@ -1,19 +1,16 @@
 //! What a write does next, while it claims its rows.
 ghost use Rattle.std.specs.Prelude.{◌≡◌, ℕ, List, [], ◌∷◌, ◌++◌, ◌+◌, ◌-◌, ◌<◌, ◌≤◌, true, length, drop};
 ghost use Rattle.arrayvec.specs.ArrayVec.{array_vec_len};
-ghost use Rattle.stripe_layout.specs.Placement.{bays_of, parity_bay, units_in, units_out};
-ghost use Rattle.raid_base.specs.Steps.{Through};
-ghost use Rattle.raid_base.specs.declared.messages.How.TheVariants.{Plain};
-ghost use Rattle.attempts.specs.Accesses.{access_of};
+ghost use Rattle.stripe_layout.specs.Placement.{units_in};
 ghost use Rattle.attempts.specs.Parts.{blocks_in, is_part};
-ghost use Rattle.attempts.specs.Taking.{Row as RowView, row_ended, shares, claims, claim, confirm, lacks};
-ghost use Rattle.attempts.specs.Releases.{write_releases, refused_steps};
-ghost use Rattle.attempts.specs.Puts.{Puts as PutsView, is_small_plan};
-ghost use Rattle.attempts.specs.Writing.{write_refused, claim_wanted, parity_claimed, small_claimed};
-ghost use Rattle.row_plans.specs.Plans.{choose};
-ghost use Rattle.host_write.specs.Stages.{is_kept, is_settled, are_rows, is_row};
+ghost use Rattle.attempts.specs.Taking.{lacks};
+ghost use Rattle.attempts.specs.Puts.{Puts as PutsView};
+ghost use Rattle.host_write.specs.Stages.{is_settled, are_rows, is_row};
 ghost use Rattle.host_write.specs.declared.stages.WriteStage.TheVariants.{ClaimSmall};
-ghost use Rattle.host_write.specs.Left.{left_of, rest_of, claim_reconstruct};
+ghost use Rattle.host_write.specs.Errands.{parity_claim_of, wanted_claims_of, other_shares_of, row_confirm_of};
+ghost use Rattle.host_write.specs.Aheads.{KeepsStage, AlwaysKeepsStage, LeadsTo, LeadsUnconfirmed};
+ghost use Rattle.host_write.specs.Aheads.{claim_refusal, rest_after_parity, rest_from_wanted};
+ghost use Rattle.host_write.specs.Aheads.{rest_from_others, rest_after_small, rest_after_row};
 
 use crate::parity::{is_small, plan_of};
 use crate::stages::{Ahead, WriteStage};
@@ -30,7 +27,7 @@ use stripe_layout::parity_bay;
 pub fn parity_claim(job: &Assignment, part: RowPart) -> Queue
     requires some { 1 ≤ part.count }
     requires most { part.count ≤ job.now.n - 1 }
-    ensures { result ≡ claim job.now.id part.row Plain part.mask (is_small_plan (choose (job.now.n - 1) part.count)) (parity_bay job.now.n part.row) ∷ [] }
+    ensures { result ≡ parity_claim_of job.now part }
 {
     let want = is_small(plan_of(job, part));
     let bay = parity_bay(job.n, part.row);
@@ -39,7 +36,7 @@ pub fn parity_claim(job: &Assignment, part: RowPart) -> Queue
 
 /// The claims of a part's units.
 fn wanted_claims(job: &Assignment, want: bool, part: RowPart) -> Queue
-    ensures value { result ≡ claims job.now.id part.row Plain want (bays_of job.now.n part.row (units_in job.now.n part.mask)) }
+    ensures value { result ≡ wanted_claims_of job.now want part }
     ensures len { length result ≡ length (units_in job.now.n part.mask) }
     ensures few { length result ≤ 15 }
 {
@@ -50,7 +47,7 @@ fn wanted_claims(job: &Assignment, want: bool, part: RowPart) -> Queue
 
 /// The shares of the other units of its row.
 fn other_shares(job: &Assignment, part: RowPart) -> Queue
-    ensures value { result ≡ shares job.now.id part.row (bays_of job.now.n part.row (units_out job.now.n part.mask)) }
+    ensures value { result ≡ other_shares_of job.now part }
     ensures few { length result ≤ 15 }
 {
     let units = units_out(job.n, part.mask);
@@ -61,8 +58,8 @@ fn other_shares(job: &Assignment, part: RowPart) -> Queue
 /// What is given back of all that is held, where the write is refused while it claims.
 pub fn refused(job: &Assignment, taken: &Taken, cause: Cause) -> Ahead
     requires { length taken.now.before < 8 }
-    ensures left { (blocks : List (List ℕ)) → (rows : List RowView) → (puts : PutsView) → left_of result.stage (access_of job.now blocks) taken.now rows puts result.queue ≡ write_refused (access_of job.now blocks) taken.now cause }
-    ensures kept { (rows : List RowView) → (puts : PutsView) → is_kept result.stage job.now.n job.now.parts.items (length result.queue) taken.now rows puts ≡ true }
+    ensures left { LeadsTo job.now taken.now result (claim_refusal taken.now cause) }
+    ensures kept { AlwaysKeepsStage job.now taken.now result }
     ensures awake { is_settled result.stage ≡ true }
 {
     let mut releases = write_releases(job.mode, job.n, job.id, taken.before());
@@ -80,8 +77,8 @@ pub fn claim_wanted(job: &Assignment, taken: &Taken, want: bool) -> Ahead
     requires part { is_part job.now.n (blocks_in job.now.parts.items) taken.now.row.part ≡ true }
     requires wanted { length taken.now.row.wanted ≡ 0 }
     requires others { length taken.now.row.others ≤ 16 }
-    ensures left { (blocks : List (List ℕ)) → (rows : List RowView) → (puts : PutsView) → left_of result.stage (access_of job.now blocks) taken.now rows puts result.queue ≡ claim_wanted (access_of job.now blocks) (rest_of (access_of job.now blocks) taken.now) want taken.now }
-    ensures kept { (rows : List RowView) → (puts : PutsView) → is_kept result.stage job.now.n job.now.parts.items (length result.queue) taken.now rows puts ≡ true }
+    ensures left { LeadsTo job.now taken.now result (rest_from_wanted taken.now want) }
+    ensures kept { AlwaysKeepsStage job.now taken.now result }
     ensures awake { is_settled result.stage ≡ true }
 {
     Ahead {
@@ -98,8 +95,8 @@ fn claim_small(job: &Assignment, taken: &Taken) -> Ahead
     requires wanted { length taken.now.row.wanted ≡ 0 }
     requires others { length taken.now.row.others ≡ 0 }
     ensures stage { result.stage ≡ ClaimSmall }
-    ensures queue { result.queue ≡ claims job.now.id taken.now.row.part.row Plain true (bays_of job.now.n taken.now.row.part.row (units_in job.now.n taken.now.row.part.mask)) }
-    ensures kept { (rows : List RowView) → (puts : PutsView) → is_kept result.stage job.now.n job.now.parts.items (length result.queue) taken.now rows puts ≡ true }
+    ensures queue { result.queue ≡ wanted_claims_of job.now true taken.now.row.part }
+    ensures kept { AlwaysKeepsStage job.now taken.now result }
 {
     Ahead {
         stage: WriteStage::ClaimSmall,
@@ -115,8 +112,8 @@ fn share_until(job: &Assignment, taken: &Taken) -> Ahead
     requires part { is_part job.now.n (blocks_in job.now.parts.items) taken.now.row.part ≡ true }
     requires wanted { length taken.now.row.wanted ≡ 0 }
     requires others { length taken.now.row.others ≡ 0 }
-    ensures left { (blocks : List (List ℕ)) → (rows : List RowView) → (puts : PutsView) → left_of result.stage (access_of job.now blocks) taken.now rows puts result.queue ≡ claim_reconstruct (access_of job.now blocks) (rest_of (access_of job.now blocks) taken.now) taken.now }
-    ensures kept { (rows : List RowView) → (puts : PutsView) → is_kept result.stage job.now.n job.now.parts.items (length result.queue) taken.now rows puts ≡ true }
+    ensures left { LeadsTo job.now taken.now result (rest_from_others taken.now) }
+    ensures kept { AlwaysKeepsStage job.now taken.now result }
     ensures awake { is_settled result.stage ≡ true }
 {
     let queue = other_shares(job, taken.row().part());
@@ -138,8 +135,8 @@ pub fn after_parity(job: &Assignment, taken: &Taken) -> Ahead
     requires part { is_part job.now.n (blocks_in job.now.parts.items) taken.now.row.part ≡ true }
     requires wanted { length taken.now.row.wanted ≡ 0 }
     requires others { length taken.now.row.others ≡ 0 }
-    ensures left { (blocks : List (List ℕ)) → (rows : List RowView) → (puts : PutsView) → left_of result.stage (access_of job.now blocks) taken.now rows puts result.queue ≡ parity_claimed (access_of job.now blocks) (rest_of (access_of job.now blocks) taken.now) (Through taken.now) }
-    ensures kept { (rows : List RowView) → (puts : PutsView) → is_kept result.stage job.now.n job.now.parts.items (length result.queue) taken.now rows puts ≡ true }
+    ensures left { LeadsTo job.now taken.now result (rest_after_parity taken.now) }
+    ensures kept { AlwaysKeepsStage job.now taken.now result }
     ensures awake { is_settled result.stage ≡ true }
 {
     match taken.row().parity() {
@@ -154,7 +151,7 @@ pub fn after_parity(job: &Assignment, taken: &Taken) -> Ahead
 
 /// The confirm of a row's parity, with its cell where a unit was missing that is not wanted.
 pub fn row_confirm(job: &Assignment, row: &Row) -> Queue
-    ensures { result ≡ confirm job.now.id row.now.part.row (lacks row.now.others) (parity_bay job.now.n row.now.part.row) ∷ [] }
+    ensures { result ≡ row_confirm_of job.now row.now }
 {
     let place = row.part().row;
     let bay = parity_bay(job.n, place);
@@ -167,8 +164,8 @@ pub fn end_row(job: &Assignment, taken: &mut Taken) -> Ahead
     requires row { length taken.old.before < array_vec_len job.now.parts }
     requires rows { are_rows job.now.n (blocks_in job.now.parts.items) taken.old.before ≡ true }
     requires this { is_row job.now.n (blocks_in job.now.parts.items) taken.old.row ≡ true }
-    ensures left { (blocks : List (List ℕ)) → (puts : PutsView) → left_of result.stage (access_of job.now blocks) taken.new [] puts result.queue ≡ rest_of (access_of job.now blocks) taken.old (row_ended taken.old) }
-    ensures kept { (puts : PutsView) → is_kept result.stage job.now.n job.now.parts.items (length result.queue) taken.new [] puts ≡ true }
+    ensures left { LeadsUnconfirmed job.now taken.new result (rest_after_row taken.old) }
+    ensures kept { (puts : PutsView) → KeepsStage job.now taken.new [] puts result }
     ensures awake { is_settled result.stage ≡ true }
 {
     let at = taken.before().len() + 1;
@@ -195,8 +192,8 @@ pub fn after_small(job: &Assignment, taken: &mut Taken) -> Ahead
     requires rows { are_rows job.now.n (blocks_in job.now.parts.items) taken.old.before ≡ true }
     requires this { is_row job.now.n (blocks_in job.now.parts.items) taken.old.row ≡ true }
     requires others { length taken.old.row.others ≡ 0 }
-    ensures left { (blocks : List (List ℕ)) → (puts : PutsView) → left_of result.stage (access_of job.now blocks) taken.new [] puts result.queue ≡ small_claimed (access_of job.now blocks) (rest_of (access_of job.now blocks) taken.old) (Through taken.old) }
-    ensures kept { (puts : PutsView) → is_kept result.stage job.now.n job.now.parts.items (length result.queue) taken.new [] puts ≡ true }
+    ensures left { LeadsUnconfirmed job.now taken.new result (rest_after_small taken.old) }
+    ensures kept { (puts : PutsView) → KeepsStage job.now taken.new [] puts result }
     ensures awake { is_settled result.stage ≡ true }
 {
     if !lacks(taken.row().wanted()) {

@@ -2,14 +2,12 @@
 ghost use Rattle.std.specs.Prelude.{◌≡◌, ℕ, List, [], ◌∷◌, ◌<◌, ◌≤◌, true, length, drop, option_map, unwrap_or};
 ghost use Rattle.arrayvec.specs.ArrayVec.{array_vec_len};
 ghost use Rattle.raid_base.specs.declared.jobs.Cause.TheVariants as causes;
-ghost use Rattle.attempts.specs.Accesses.{access_of};
 ghost use Rattle.attempts.specs.Parts.{blocks_in};
-ghost use Rattle.attempts.specs.Taking.{Row as RowView, refusal, with_parity};
-ghost use Rattle.attempts.specs.Releases.{write_releases, refused_steps};
-ghost use Rattle.attempts.specs.Puts.{Puts as PutsView};
-ghost use Rattle.attempts.specs.Writing.{held_row, confirmed_row, row_or_change, confirm_rows};
-ghost use Rattle.host_write.specs.Stages.{is_kept, is_settled, are_rows};
-ghost use Rattle.host_write.specs.Left.{left_of, confirmed_so_far};
+ghost use Rattle.attempts.specs.Taking.{refusal};
+ghost use Rattle.attempts.specs.Writing.{held_row, confirmed_row, row_or_change};
+ghost use Rattle.host_write.specs.Stages.{is_settled, are_rows};
+ghost use Rattle.host_write.specs.Rows.{MakesRow};
+ghost use Rattle.host_write.specs.Aheads.{KeepsStage, AlwaysKeepsStage, LeadsTo, ConfirmsNext, confirm_refusal};
 
 use crate::claims::row_confirm;
 use crate::puts::Puts;
@@ -29,7 +27,7 @@ fn held_parity(
     want: bool,
     held: Option<Option<Cell>>,
 ) -> Option<Option<Grant>>
-    ensures { option_map (λ parity. with_parity parity row.now) result ≡ held_row row.now grant want held }
+    ensures { MakesRow row.now result (held_row row.now grant want held) }
 {
     match held {
         None => None,
@@ -53,7 +51,7 @@ fn held_parity(
 
 /// The parity of the row once it answered as it was: held where it was granted, and missing where it was missing.
 fn confirmed_parity(row: &Row, reply: &Reply) -> Option<Option<Grant>>
-    ensures { option_map (λ parity. with_parity parity row.now) result ≡ confirmed_row row.now reply.now row.now.parity }
+    ensures { MakesRow row.now result (confirmed_row row.now reply.now row.now.parity) }
 {
     match row.parity() {
         Some(grant) => held_parity(row, grant, lacks(row.others()), reply.held()),
@@ -75,7 +73,7 @@ pub fn parity_or_change(
     row: &Row,
     reply: &Reply,
 ) -> Option<Option<Grant>>
-    ensures { option_map (λ parity. with_parity parity row.now) result ≡ row_or_change least missing bay row.now reply.now }
+    ensures { MakesRow row.now result (row_or_change least missing bay row.now reply.now) }
 {
     match refusal(least, missing, bay, reply) {
         Some(_) => None,
@@ -104,8 +102,8 @@ pub fn confirm_cause(
 #[inline(never)]
 pub fn unconfirmed(job: &Assignment, taken: &Taken, cause: Cause) -> Ahead
     requires { length taken.now.before ≤ 8 }
-    ensures left { (blocks : List (List ℕ)) → (rows : List RowView) → (puts : PutsView) → left_of result.stage (access_of job.now blocks) taken.now rows puts result.queue ≡ refused_steps (write_releases (access_of job.now blocks) taken.now.before) cause }
-    ensures kept { (rows : List RowView) → (puts : PutsView) → is_kept result.stage job.now.n job.now.parts.items (length result.queue) taken.now rows puts ≡ true }
+    ensures left { LeadsTo job.now taken.now result (confirm_refusal taken.now cause) }
+    ensures kept { AlwaysKeepsStage job.now taken.now result }
     ensures awake { is_settled result.stage ≡ true }
 {
     Ahead {
@@ -126,8 +124,8 @@ pub fn after_confirm(
     requires before { are_rows job.now.n (blocks_in job.now.parts.items) taken.now.before ≡ true }
     requires rows { are_rows job.now.n (blocks_in job.now.parts.items) rows.now ≡ true }
     requires within { length rows.now ≤ length taken.now.before }
-    ensures left { left_of result.stage (access_of job.now blocks.now) taken.now rows.now puts.new result.queue ≡ confirm_rows (access_of job.now blocks.now) taken.now.before (drop (length rows.now) taken.now.before) (confirmed_so_far taken.now rows.now) }
-    ensures kept { is_kept result.stage job.now.n job.now.parts.items (length result.queue) taken.now rows.now puts.new ≡ true }
+    ensures left { ConfirmsNext job.now blocks.now taken.now rows.now puts.new result }
+    ensures kept { KeepsStage job.now taken.now rows.now puts.new result }
 {
     let before = taken.before();
     let at = rows.len();

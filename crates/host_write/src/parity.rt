@@ -8,6 +8,7 @@ ghost use Rattle.row_plans.specs.Plans.{choose};
 ghost use Rattle.attempts.specs.Accesses.{access_of};
 ghost use Rattle.attempts.specs.Reading.{cells_in, parity_in};
 ghost use Rattle.attempts.specs.Puts.{folded, goes_small, is_small_plan, new_parity, parity_put};
+ghost use Rattle.host_write.specs.Rows.{changed_parity};
 
 use crate::blocks::new_blocks;
 use arrayvec::ArrayVec;
@@ -101,7 +102,7 @@ fn goes_small(plan: Plan, row: &Row) -> bool
 
 /// The old parity with the changes of the wanted units.
 fn small_parity(job: &Assignment, new: &[[u8; 64]], row: &Row) -> Cell
-    ensures { result ≡ folded (parity_in row.now) (units_in job.now.n row.now.part.mask) row.now.wanted new.now }
+    ensures { result ≡ changed_parity job.now.n row.now new.now }
 {
     let units = units_in(job.n, row.part().mask);
     fold_changes(parity_in(row), units.as_slice(), row.wanted(), new)

@@ -2,11 +2,9 @@
 ghost use Rattle.std.specs.Prelude.{◌≡◌, ℕ, List, [], ◌∷◌, ◌++◌, ◌+◌, ◌-◌, ◌^◌, ◌<◌, ◌≤◌, Option, length, map, zip, All, fold, bit_or};
 ghost use Rattle.arrayvec.specs.ArrayVec.{array_vec_len};
 ghost use Rattle.stripe_layout.specs.Placement.{units_in};
-ghost use Rattle.virtual_objects.specs.Objects.{rank};
-ghost use Rattle.std.specs.List.{list_all};
-ghost use Rattle.attempts.specs.Accesses.{access_of};
 ghost use Rattle.attempts.specs.Releases.{is_among};
 ghost use Rattle.attempts.specs.Puts.{missing_units, flags, trouble_cause, first_cause};
+ghost use Rattle.host_write.specs.Blocks.{IsOfJob, are_made, places_of};
 
 use crate::blocks::block_no;
 use crate::troubles::Trouble;
@@ -35,7 +33,12 @@ impl Model for Puts {
 
     ghost Value = { PutsView };
 
-    ghost view = { λ p. record { made = p.made.items; answered = p.answered; left = p.left.items; troubles = p.troubles.items } };
+    ghost view = { λ p. record {
+      made = p.made.items;
+      answered = p.answered;
+      left = p.left.items;
+      troubles = p.troubles.items;
+    } };
 
     ghost invariant = { λ p. All (λ block. block < 128) p.made.items };
 }
@@ -46,7 +49,7 @@ fn push_blocks(made: &mut Made, n: u8, part: RowPart, units: &[u8])
     requires at { part.at + length (units_in n part.mask) < 128 }
     requires room { array_vec_len made.old + length units.now ≤ 400 }
     requires below { All (λ block. block < 128) made.old.items }
-    ensures items { made.new.items ≡ made.old.items ++ map (λ unit. part.at + rank unit (units_in n part.mask)) units.now }
+    ensures items { made.new.items ≡ made.old.items ++ places_of n part units.now }
     ensures below { All (λ block. block < 128) made.new.items }
 {
     for unit in units {
@@ -99,7 +102,7 @@ impl Puts {
         requires few { 3 ≤ n × (n ≤ 16) }
         requires at { part.at + length (units_in n part.mask) < 128 }
         requires room { length self.old.made + length units.now ≤ 400 }
-        ensures { self.new ≡ with_made self.old (map (λ unit. part.at + rank unit (units_in n part.mask)) units.now) }
+        ensures { self.new ≡ with_made self.old (places_of n part units.now) }
     {
         self.answered = true;
         push_blocks(&mut self.made, n, part, units);
@@ -127,7 +130,7 @@ impl Puts {
 
     /// How the write ends once all is put.
     pub fn written(&self, job: &Assignment, number: Number) -> Ended
-        ensures { (blocks : List (List ℕ)) → result ≡ written (access_of job.now blocks) number self.now }
+        ensures { IsOfJob job.now result (λ a. written a number self.now) }
     {
         match first_cause(job, self.made.as_slice(), self.troubles.as_slice()) {
             Some(cause) => Ended::Part {
@@ -165,7 +168,7 @@ fn is_among(made: &[u8], block: usize) -> bool
 #[tactic(auto, using(crate::proofs::PutLemmas::made))]
 fn is_row_made(n: u8, made: &[u8], part: RowPart) -> bool
     requires { 3 ≤ n × (n ≤ 16) }
-    ensures { result ≡ list_all (λ unit. is_among made.now (part.at + rank unit (units_in n part.mask))) (units_in n part.mask) }
+    ensures { result ≡ are_made n made.now part }
 {
     let units = units_in(n, part.mask);
     for i in 0..units.len() {
@@ -179,7 +182,7 @@ fn is_row_made(n: u8, made: &[u8], part: RowPart) -> bool
 /// The cause of a write that was done in part, by one trouble: a failed store always, and a note that was gone where its
 /// row is not made.
 fn trouble_cause(job: &Assignment, made: &[u8], trouble: &Trouble) -> Option<Cause>
-    ensures { (blocks : List (List ℕ)) → result ≡ trouble_cause (access_of job.now blocks) made.now trouble.now }
+    ensures { IsOfJob job.now result (λ a. trouble_cause a made.now trouble.now) }
 {
     let (fault, part) = trouble.told();
     match fault {
@@ -196,7 +199,7 @@ fn trouble_cause(job: &Assignment, made: &[u8], trouble: &Trouble) -> Option<Cau
 
 /// The cause by the first trouble that counts.
 fn first_cause(job: &Assignment, made: &[u8], troubles: &[Trouble]) -> Option<Cause>
-    ensures { (blocks : List (List ℕ)) → result ≡ first_cause (access_of job.now blocks) made.now troubles.now }
+    ensures { IsOfJob job.now result (λ a. first_cause a made.now troubles.now) }
 {
     for trouble in troubles {
         if let Some(cause) = trouble_cause(job, made, trouble) {

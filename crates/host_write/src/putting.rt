@@ -1,14 +1,14 @@
 //! What a write does next, while it puts its rows.
 ghost use Rattle.std.specs.Prelude.{◌≡◌, ℕ, List, [], ◌∷◌, ◌+◌, ◌*◌, ◌<◌, ◌≤◌, Some, true, length, drop};
 ghost use Rattle.arrayvec.specs.ArrayVec.{array_vec_len};
-ghost use Rattle.raid_base.specs.Steps.{Through, settled};
 ghost use Rattle.attempts.specs.Accesses.{access_of};
 ghost use Rattle.attempts.specs.Parts.{blocks_in};
 ghost use Rattle.attempts.specs.Taking.{Taken as TakenView};
-ghost use Rattle.attempts.specs.Puts.{Puts as PutsView};
-ghost use Rattle.attempts.specs.Writing.{reader_releases, write_numbered, write_drawn, write_last, put_rows, data_done, put_steps};
-ghost use Rattle.host_write.specs.Stages.{is_kept, is_settled, are_rows, puts_room};
-ghost use Rattle.host_write.specs.Left.{left_of, row_at, puts_of};
+ghost use Rattle.attempts.specs.Writing.{reader_releases};
+ghost use Rattle.host_write.specs.Stages.{is_settled, are_rows, puts_room};
+ghost use Rattle.host_write.specs.Blocks.{IsOfJob};
+ghost use Rattle.host_write.specs.Aheads.{KeepsStage, PutsLeadTo, Settles, left_next};
+ghost use Rattle.host_write.specs.Aheads.{puts_from, puts_after_data, puts_with, puts_numbered, puts_drawn};
 
 use crate::blocks::data_puts;
 use crate::parity::parity_put;
@@ -24,7 +24,7 @@ use raid_base::{Cause, Mode, Number, Spent};
 /// The releases of the readers, which under stamps there are none of.
 fn last_releases(job: &Assignment, rows: &[Row]) -> Queue
     requires { length rows.now ≤ 8 }
-    ensures { (blocks : List (List ℕ)) → result ≡ reader_releases job.now.mode (access_of job.now blocks) rows.now }
+    ensures { IsOfJob job.now result (λ a. reader_releases job.now.mode a rows.now) }
 {
     match job.mode {
         Mode::Order => Queue::empty(),
@@ -47,8 +47,9 @@ pub fn next_put(
     requires row { row ≤ length rows.now }
     requires made { length puts.old.made ≤ 45 * row }
     requires troubles { length puts.old.troubles ≤ 16 * row }
-    ensures left { (t : TakenView) → left_of result.stage (access_of job.now blocks.now) t rows.now puts.new result.queue ≡ put_rows (access_of job.now blocks.now) number (write_last (access_of job.now blocks.now) number rows.now) (drop row rows.now) puts.old }
-    ensures kept { (t : TakenView) → is_kept result.stage job.now.n job.now.parts.items (length result.queue) t rows.now puts.new ≡ true }
+    ensures left { PutsLeadTo job.now blocks.now rows.now puts.new result
+        (puts_from number row puts.old) }
+    ensures kept { (t : TakenView) → KeepsStage job.now t rows.now puts.new result }
     ensures awake { is_settled result.stage ≡ true }
 {
     if row >= rows.len() {
@@ -91,8 +92,9 @@ pub fn after_data(
     requires made { length puts.old.made ≤ 45 * row + 15 }
     requires left { length puts.old.left ≤ 15 }
     requires troubles { length puts.old.troubles ≤ 16 * row + 15 }
-    ensures left { (t : TakenView) → left_of result.stage (access_of job.now blocks.now) t rows.now puts.new result.queue ≡ data_done (access_of job.now blocks.now) number (row_at rows.now row) (puts_of (access_of job.now blocks.now) number rows.now row) (Through puts.old) }
-    ensures kept { (t : TakenView) → is_kept result.stage job.now.n job.now.parts.items (length result.queue) t rows.now puts.new ≡ true }
+    ensures left { PutsLeadTo job.now blocks.now rows.now puts.new result
+        (puts_after_data number row puts.old) }
+    ensures kept { (t : TakenView) → KeepsStage job.now t rows.now puts.new result }
     ensures awake { is_settled result.stage ≡ true }
 {
     let done = &rows[row];
@@ -115,8 +117,8 @@ fn first_put(
 ) -> Ahead
     requires blocks { length blocks.now ≡ blocks_in job.now.parts.items }
     requires rows { are_rows job.now.n (blocks_in job.now.parts.items) rows.now ≡ true }
-    ensures left { (t : TakenView) → left_of result.stage (access_of job.now blocks.now) t rows.now puts.new result.queue ≡ put_steps (access_of job.now blocks.now) number rows.now }
-    ensures kept { (t : TakenView) → is_kept result.stage job.now.n job.now.parts.items (length result.queue) t rows.now puts.new ≡ true }
+    ensures left { PutsLeadTo job.now blocks.now rows.now puts.new result (puts_with number) }
+    ensures kept { (t : TakenView) → KeepsStage job.now t rows.now puts.new result }
     ensures awake { is_settled result.stage ≡ true }
 {
     puts.clear();
@@ -127,8 +129,8 @@ fn first_put(
 pub fn numbered(job: &Assignment, blocks: &[[u8; 64]], rows: &[Row], puts: &mut Puts) -> Ahead
     requires blocks { length blocks.now ≡ blocks_in job.now.parts.items }
     requires rows { are_rows job.now.n (blocks_in job.now.parts.items) rows.now ≡ true }
-    ensures left { (t : TakenView) → left_of result.stage (access_of job.now blocks.now) t rows.now puts.new result.queue ≡ write_numbered job.now.mode (access_of job.now blocks.now) rows.now }
-    ensures kept { (t : TakenView) → is_kept result.stage job.now.n job.now.parts.items (length result.queue) t rows.now puts.new ≡ true }
+    ensures left { PutsLeadTo job.now blocks.now rows.now puts.new result puts_numbered }
+    ensures kept { (t : TakenView) → KeepsStage job.now t rows.now puts.new result }
 {
     match job.mode {
         Mode::Order => first_put(job, blocks, rows, puts, job.id),
@@ -149,8 +151,8 @@ fn drawn(
 ) -> Ahead
     requires blocks { length blocks.now ≡ blocks_in job.now.parts.items }
     requires rows { are_rows job.now.n (blocks_in job.now.parts.items) rows.now ≡ true }
-    ensures left { (t : TakenView) → left_of result.stage (access_of job.now blocks.now) t rows.now puts.new result.queue ≡ write_drawn (access_of job.now blocks.now) rows.now number }
-    ensures kept { (t : TakenView) → is_kept result.stage job.now.n job.now.parts.items (length result.queue) t rows.now puts.new ≡ true }
+    ensures left { PutsLeadTo job.now blocks.now rows.now puts.new result (puts_drawn number) }
+    ensures kept { (t : TakenView) → KeepsStage job.now t rows.now puts.new result }
     ensures awake { is_settled result.stage ≡ true }
 {
     match number {
@@ -176,10 +178,12 @@ pub fn settled(
     numbers: &mut Numbers,
 ) -> Ahead
     requires blocks { length blocks.now ≡ blocks_in job.now.parts.items }
-    requires kept { is_kept ahead.stage job.now.n job.now.parts.items (length ahead.queue) taken.now rows.now puts.old ≡ true }
-    ensures left { record { seen = numbers.new.seen; steps = left_of result.stage (access_of job.now blocks.now) taken.now rows.now puts.new result.queue } ≡ settled numbers.old.host numbers.old.seen (left_of ahead.stage (access_of job.now blocks.now) taken.now rows.now puts.old ahead.queue) }
+    requires kept { KeepsStage job.now taken.now rows.now puts.old ahead }
+    ensures left { Settles numbers.old numbers.new
+        (left_next (access_of job.now blocks.now) ahead taken.now rows.now puts.old)
+        (left_next (access_of job.now blocks.now) result taken.now rows.now puts.new) }
     ensures host { numbers.new.host ≡ numbers.old.host }
-    ensures kept { is_kept result.stage job.now.n job.now.parts.items (length result.queue) taken.now rows.now puts.new ≡ true }
+    ensures kept { KeepsStage job.now taken.now rows.now puts.new result }
     ensures awake { is_settled result.stage ≡ true }
 {
     match ahead.stage {

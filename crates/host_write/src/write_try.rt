@@ -15,8 +15,7 @@ ghost use Rattle.arrayvec.specs.ArrayVec.{array_vec_len};
 ghost use Rattle.attempts.specs.Parts.{blocks_in};
 ghost use Rattle.virtual_objects.specs.RowParts.{AreRowParts};
 ghost use Rattle.host_write.specs.Stages.{is_kept, is_settled};
-ghost use Rattle.raid_base.specs.Steps.{next_errand, behind, stopped, answer, settled, told};
-ghost use Rattle.raid_base.specs.declared.messages.Errand.{Errand as ErrandView};
+ghost use Rattle.raid_base.specs.Steps.{behind, stopped, answer};
 
 use crate::answered::{add_trouble, data_answered, parity_answered};
 use crate::blocks::unit_on;
@@ -48,12 +47,10 @@ pub struct WriteTry {
 }
 
 impl WriteTry {
-    ghost use Rattle.attempts.specs.Accesses.{access_of};
-    ghost use Rattle.attempts.specs.Writing.{write_refused, write_steps};
-    ghost use Rattle.host_write.specs.Answers.{ended_in};
+    ghost use Rattle.host_write.specs.Answers.{ended_in, next_request};
     ghost use Rattle.raid_base.specs.First.{first_errand};
     ghost use Rattle.raid_base.specs.Replies.{grant_of};
-    ghost use Rattle.host_write.specs.Tries.{left, block_count};
+    ghost use Rattle.host_write.specs.Tries.{left, block_count, IsBegun, IsTold, GoesBehind, IsTaken, IsRefused};
     ghost use Rattle.host_write.specs.declared.stages.WriteStage.TheVariants.{ClaimParity, ClaimWanted, ClaimSmall, ShareUntil, ShareAfter, Confirm, PutData, PutParity};
 
     /// Begins a write of these parts of a job, on n devices.
@@ -63,7 +60,7 @@ impl WriteTry {
         requires id { (1 ≤ id.0) × (id.0 < 2 ^ 62) }
         requires parts { AreRowParts n parts.items }
         ensures count { block_count result ≡ blocks_in parts.items }
-        ensures left { (blocks : List (List ℕ)) → left result blocks ≡ write_steps (record { mode = mode; n = n; id = id; parts = parts.items; blocks = blocks }) }
+        ensures left { IsBegun mode n id parts.items result }
     {
         let part = parts[0];
         let job = Assignment { mode, n, id, parts };
@@ -85,7 +82,7 @@ impl WriteTry {
         requires id { (1 ≤ id.0) × (id.0 < 2 ^ 62) }
         requires parts { AreRowParts n parts.items }
         ensures count { block_count self.new ≡ blocks_in parts.items }
-        ensures left { (blocks : List (List ℕ)) → left self.new blocks ≡ write_steps (record { mode = mode; n = n; id = id; parts = parts.items; blocks = blocks }) }
+        ensures left { IsBegun mode n id parts.items self.new }
     {
         let part = parts[0];
         let job = Assignment { mode, n, id, parts };
@@ -99,7 +96,7 @@ impl WriteTry {
 
     /// The next request, and the bay that it goes to. None exactly where the write has ended.
     pub fn next(&self, blocks: &[[u8; 64]]) -> Option<(BayNo, Request)>
-        ensures value { result ≡ option_map (λ (e : ErrandView). (e.bay, e.request)) (next_errand (left self.now blocks.now)) }
+        ensures value { result ≡ next_request (left self.now blocks.now) }
         ensures ended { IsSome result ↔ (answer (left self.now blocks.now) ≡ None) }
     {
         match self.queue.first() {
@@ -157,7 +154,7 @@ impl WriteTry {
     pub fn take(&mut self, blocks: &[[u8; 64]], reply: &Reply, numbers: &mut Numbers)
         requires blocks { length blocks.now ≡ block_count self.old }
         requires asks { answer (left self.old blocks.now) ≡ None }
-        ensures told { record { seen = numbers.new.seen; steps = left self.new blocks.now } ≡ told numbers.old.host (record { seen = numbers.old.seen; steps = left self.old blocks.now }) reply.now }
+        ensures told { IsTold blocks.now reply.now numbers.old numbers.new self.old self.new }
         ensures host { numbers.new.host ≡ numbers.old.host }
         ensures count { block_count self.new ≡ block_count self.old }
     {
@@ -182,7 +179,7 @@ impl WriteTry {
     #[inline(never)]
     fn refuse(&mut self, cause: Cause)
         requires { length self.old.taken.before < 8 }
-        ensures left { (blocks : List (List ℕ)) → left self.new blocks ≡ write_refused (access_of self.old.job blocks) self.old.taken cause }
+        ensures left { IsRefused self.old cause self.new }
         ensures job { self.new.job ≡ self.old.job }
     {
         let Ahead { stage, queue } = refused(&self.job, &self.taken, cause);
@@ -193,7 +190,7 @@ impl WriteTry {
     /// Takes the reply to the claim of a parity.
     fn take_parity(&mut self, reply: &Reply)
         requires { self.old.stage ≡ ClaimParity }
-        ensures left { (blocks : List (List ℕ)) → left self.new blocks ≡ behind (left self.old blocks) reply.now }
+        ensures left { GoesBehind self.old reply.now self.new }
         ensures job { self.new.job ≡ self.old.job }
     {
         let bay = self.queue.head().bay;
@@ -212,7 +209,7 @@ impl WriteTry {
     /// Takes the reply to the claim of a wanted unit, of which the last ends the row.
     fn take_wanted(&mut self, reply: &Reply)
         requires { self.old.stage ≡ ClaimWanted }
-        ensures left { (blocks : List (List ℕ)) → left self.new blocks ≡ behind (left self.old blocks) reply.now }
+        ensures left { GoesBehind self.old reply.now self.new }
         ensures job { self.new.job ≡ self.old.job }
     {
         let bay = self.queue.head().bay;
@@ -236,7 +233,7 @@ impl WriteTry {
     /// Takes the reply to the claim of a wanted unit with its cell.
     fn take_small(&mut self, reply: &Reply)
         requires { self.old.stage ≡ ClaimSmall }
-        ensures left { (blocks : List (List ℕ)) → left self.new blocks ≡ behind (left self.old blocks) reply.now }
+        ensures left { GoesBehind self.old reply.now self.new }
         ensures job { self.new.job ≡ self.old.job }
     {
         let bay = self.queue.head().bay;
@@ -260,7 +257,7 @@ impl WriteTry {
     /// Takes the reply to the share of another unit, of which the first that is missing ends the shares.
     fn take_until(&mut self, reply: &Reply)
         requires { self.old.stage ≡ ShareUntil }
-        ensures left { (blocks : List (List ℕ)) → left self.new blocks ≡ behind (left self.old blocks) reply.now }
+        ensures left { GoesBehind self.old reply.now self.new }
         ensures job { self.new.job ≡ self.old.job }
     {
         let bay = self.queue.head().bay;
@@ -284,7 +281,7 @@ impl WriteTry {
         requires stage { self.old.stage ≡ ShareUntil }
         requires bay { bay ≡ (first_errand self.old.queue).bay }
         requires none { grant_of reply.now ≡ None }
-        ensures left { (blocks : List (List ℕ)) → left self.new blocks ≡ behind (left self.old blocks) reply.now }
+        ensures left { GoesBehind self.old reply.now self.new }
         ensures job { self.new.job ≡ self.old.job }
     {
         let least = behind_from(self.job.mode, self.job.id);
@@ -302,7 +299,7 @@ impl WriteTry {
     /// Takes the reply to the share of another unit, where a wanted one is missing.
     fn take_after(&mut self, reply: &Reply)
         requires { self.old.stage ≡ ShareAfter }
-        ensures left { (blocks : List (List ℕ)) → left self.new blocks ≡ behind (left self.old blocks) reply.now }
+        ensures left { GoesBehind self.old reply.now self.new }
         ensures job { self.new.job ≡ self.old.job }
     {
         let bay = self.queue.head().bay;
@@ -327,7 +324,7 @@ impl WriteTry {
     fn take_confirm(&mut self, blocks: &[[u8; 64]], reply: &Reply, numbers: &mut Numbers)
         requires stage { self.old.stage ≡ Confirm }
         requires blocks { length blocks.now ≡ blocks_in self.old.job.parts.items }
-        ensures told { record { seen = numbers.new.seen; steps = left self.new blocks.now } ≡ settled numbers.old.host numbers.old.seen (behind (left self.old blocks.now) reply.now) }
+        ensures told { IsTaken blocks.now reply.now numbers.old numbers.new self.old self.new }
         ensures host { numbers.new.host ≡ numbers.old.host }
         ensures job { self.new.job ≡ self.old.job }
     {
