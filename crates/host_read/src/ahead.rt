@@ -1,15 +1,12 @@
 //! What a read does next, once a phase of it has ended.
-ghost use Rattle.std.specs.Prelude.{◌≡◌, ℕ, true, false, [], ◌∷◌, ◌++◌, ◌+◌, ◌*◌, ◌<◌, ◌≤◌, IsTrue, length, drop};
+ghost use Rattle.std.specs.Prelude.{◌≡◌, true, false, ◌*◌, ◌<◌, ◌≤◌, length};
 ghost use Rattle.arrayvec.specs.ArrayVec.{array_vec_len};
-ghost use Rattle.stripe_layout.specs.Placement.{bays_of, units_in, units_out};
-ghost use Rattle.raid_base.specs.declared.jobs.RowPart.{RowPart};
-ghost use Rattle.attempts.specs.Accesses.{access_of};
-ghost use Rattle.attempts.specs.Taking.{Taken as TakenView, row_ended, shares};
-ghost use Rattle.attempts.specs.Releases.{read_releases, refused_steps};
-ghost use Rattle.attempts.specs.Reading.{contents_of, read_numbered, read_drawn, wanted_shared, parity_shared};
-ghost use Rattle.raid_base.specs.Steps.{Through, draws, settled};
-ghost use Rattle.host_read.specs.Stages.{is_kept, is_settled};
-ghost use Rattle.host_read.specs.Left.{left_of, rest_of};
+ghost use Rattle.stripe_layout.specs.Placement.{units_in};
+ghost use Rattle.attempts.specs.Reading.{contents_of};
+ghost use Rattle.raid_base.specs.Steps.{draws};
+ghost use Rattle.host_read.specs.Stages.{is_settled};
+ghost use Rattle.host_read.specs.Aheads.{left_ahead, left_by_row, left_by_wanted, left_by_parity, left_by_refusal, left_by_draw};
+ghost use Rattle.host_read.specs.Aheads.{shares_in, shares_out, IsShared, IsKept, IsKeptAlways, SettlesAhead};
 
 use crate::stages::{Ahead, ReadStage};
 use attempts::assignment::Assignment;
@@ -25,7 +22,7 @@ use stripe_layout::parity_bay;
 
 /// The shares of a part's units.
 pub fn wanted_shares(job: &Assignment, part: RowPart) -> Queue
-    ensures value { result ≡ shares job.now.id part.row (bays_of job.now.n part.row (units_in job.now.n part.mask)) }
+    ensures value { result ≡ shares_in job.now part }
     ensures len { length result ≡ length (units_in job.now.n part.mask) }
     ensures few { length result ≤ 15 }
 {
@@ -36,7 +33,7 @@ pub fn wanted_shares(job: &Assignment, part: RowPart) -> Queue
 
 /// The shares of the other units of its row.
 fn other_shares(job: &Assignment, part: RowPart) -> Queue
-    ensures value { result ≡ shares job.now.id part.row (bays_of job.now.n part.row (units_out job.now.n part.mask)) }
+    ensures value { result ≡ shares_out job.now part }
     ensures few { length result ≤ 15 }
 {
     let units = units_out(job.n, part.mask);
@@ -46,8 +43,8 @@ fn other_shares(job: &Assignment, part: RowPart) -> Queue
 
 /// The end of the shares: under stamps the read ends here, and under locks it draws.
 fn numbered(job: &Assignment) -> Ahead
-    ensures left { (taken : TakenView) → left_of result.stage (access_of job.now []) taken result.queue ≡ read_numbered job.now.mode (access_of job.now []) taken.before }
-    ensures kept { (parts : ℕ) → (taken : TakenView) → length taken.before ≤ parts → is_kept result.stage parts (length result.queue) taken ≡ true }
+    ensures left { IsShared job.now result }
+    ensures kept { IsKeptAlways result }
 {
     match job.mode {
         Mode::Order => Ahead {
@@ -71,8 +68,8 @@ pub fn end_row(job: &Assignment, taken: &mut Taken, contents: &mut Contents) -> 
     requires others { length taken.old.row.others ≤ 16 }
     requires shown { contents.old.items ≡ contents_of job.now.n taken.old.before }
     requires room { array_vec_len contents.old ≤ 15 * length taken.old.before }
-    ensures left { left_of result.stage (access_of job.now []) taken.new result.queue ≡ rest_of (access_of job.now []) taken.old (row_ended taken.old) }
-    ensures kept { is_kept result.stage (array_vec_len job.now.parts) (length result.queue) taken.new ≡ true }
+    ensures left { left_ahead job.now taken.new result ≡ left_by_row job.now taken.old }
+    ensures kept { IsKept job.now taken.new result }
     ensures row { length taken.new.before ≤ array_vec_len job.now.parts }
     ensures shown { contents.new.items ≡ contents_of job.now.n taken.new.before }
     ensures room { array_vec_len contents.new ≤ 15 * length taken.new.before }
@@ -99,8 +96,8 @@ pub fn after_wanted(job: &Assignment, taken: &mut Taken, contents: &mut Contents
     requires others { length taken.old.row.others ≡ 0 }
     requires shown { contents.old.items ≡ contents_of job.now.n taken.old.before }
     requires room { array_vec_len contents.old ≤ 15 * length taken.old.before }
-    ensures left { left_of result.stage (access_of job.now []) taken.new result.queue ≡ wanted_shared (access_of job.now []) (rest_of (access_of job.now []) taken.old) (Through taken.old) }
-    ensures kept { is_kept result.stage (array_vec_len job.now.parts) (length result.queue) taken.new ≡ true }
+    ensures left { left_ahead job.now taken.new result ≡ left_by_wanted job.now taken.old }
+    ensures kept { IsKept job.now taken.new result }
     ensures row { length taken.new.before ≤ array_vec_len job.now.parts }
     ensures shown { contents.new.items ≡ contents_of job.now.n taken.new.before }
     ensures room { array_vec_len contents.new ≤ 15 * length taken.new.before }
@@ -123,8 +120,8 @@ pub fn after_parity(job: &Assignment, taken: &mut Taken, contents: &mut Contents
     requires others { length taken.old.row.others ≡ 0 }
     requires shown { contents.old.items ≡ contents_of job.now.n taken.old.before }
     requires room { array_vec_len contents.old ≤ 15 * length taken.old.before }
-    ensures left { left_of result.stage (access_of job.now []) taken.new result.queue ≡ parity_shared (access_of job.now []) (rest_of (access_of job.now []) taken.old) (Through taken.old) }
-    ensures kept { is_kept result.stage (array_vec_len job.now.parts) (length result.queue) taken.new ≡ true }
+    ensures left { left_ahead job.now taken.new result ≡ left_by_parity job.now taken.old }
+    ensures kept { IsKept job.now taken.new result }
     ensures row { length taken.new.before ≤ array_vec_len job.now.parts }
     ensures shown { contents.new.items ≡ contents_of job.now.n taken.new.before }
     ensures room { array_vec_len contents.new ≤ 15 * length taken.new.before }
@@ -143,8 +140,8 @@ pub fn after_parity(job: &Assignment, taken: &mut Taken, contents: &mut Contents
 /// What is given back of all that is held, where the read is refused.
 pub fn refused(job: &Assignment, taken: &Taken, cause: Cause) -> Ahead
     requires { length taken.now.before < 8 }
-    ensures left { left_of result.stage (access_of job.now []) taken.now result.queue ≡ refused_steps (read_releases (access_of job.now []) (taken.now.before ++ taken.now.row ∷ [])) cause }
-    ensures kept { is_kept result.stage (array_vec_len job.now.parts) (length result.queue) taken.now ≡ true }
+    ensures left { left_ahead job.now taken.now result ≡ left_by_refusal job.now taken.now cause }
+    ensures kept { IsKept job.now taken.now result }
     ensures awake { is_settled result.stage ≡ true }
 {
     let mut releases = read_releases(job.mode, job.n, job.id, taken.before());
@@ -159,10 +156,10 @@ pub fn refused(job: &Assignment, taken: &Taken, cause: Cause) -> Ahead
 #[tactic(auto, using(crate::proofs::ReadLemmas::draws_nothing))]
 pub fn drawn(job: &Assignment, taken: &Taken, number: Result<Number, Spent>) -> Ahead
     requires { length taken.now.before ≤ array_vec_len job.now.parts }
-    ensures left { left_of result.stage (access_of job.now []) taken.now result.queue ≡ read_drawn (access_of job.now []) taken.now.before number }
-    ensures kept { is_kept result.stage (array_vec_len job.now.parts) (length result.queue) taken.now ≡ true }
+    ensures left { left_ahead job.now taken.now result ≡ left_by_draw job.now taken.now number }
+    ensures kept { IsKept job.now taken.now result }
     ensures awake { is_settled result.stage ≡ true }
-    ensures settled { draws (left_of result.stage (access_of job.now []) taken.now result.queue) ≡ false }
+    ensures settled { draws (left_ahead job.now taken.now result) ≡ false }
 {
     match number {
         Ok(number) => Ahead {
@@ -182,10 +179,10 @@ pub fn drawn(job: &Assignment, taken: &Taken, number: Result<Number, Spent>) -> 
 #[tactic(auto, using(crate::proofs::ReadLemmas::settles))]
 pub fn settled(job: &Assignment, taken: &Taken, ahead: Ahead, numbers: &mut Numbers) -> Ahead
     requires row { length taken.now.before ≤ array_vec_len job.now.parts }
-    requires kept { is_kept ahead.stage (array_vec_len job.now.parts) (length ahead.queue) taken.now ≡ true }
-    ensures left { record { seen = numbers.new.seen; steps = left_of result.stage (access_of job.now []) taken.now result.queue } ≡ settled numbers.old.host numbers.old.seen (left_of ahead.stage (access_of job.now []) taken.now ahead.queue) }
+    requires kept { IsKept job.now taken.now ahead }
+    ensures left { SettlesAhead job.now taken.now numbers.old ahead numbers.new result }
     ensures host { numbers.new.host ≡ numbers.old.host }
-    ensures kept { is_kept result.stage (array_vec_len job.now.parts) (length result.queue) taken.now ≡ true }
+    ensures kept { IsKept job.now taken.now result }
     ensures awake { is_settled result.stage ≡ true }
 {
     match ahead.stage {

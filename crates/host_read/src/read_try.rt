@@ -8,14 +8,13 @@
 //! A refused read gives its readers back, and has no contents. What is left of the machine is at each step what is
 //! left of the read's definition, whatever the replies. A host's `Attempt` calls it: `next` for the request in
 //! hand, `take` with the reply, `end` and `contents` once nothing is left, and `quit` where the host stops.
-ghost use Rattle.std.specs.Prelude.{◌≡◌, ◌+◌, ◌*◌, ◌^◌, ◌<◌, ◌≤◌, [], ◌∷◌, ◌++◌, ◌↔◌, Some, None, true, if◌then◌else◌, length, IsTrue, IsSome, IsNone, option_map};
+ghost use Rattle.std.specs.Prelude.{◌≡◌, ◌+◌, ◌*◌, ◌^◌, ◌<◌, ◌≤◌, ◌↔◌, Some, None, true, if◌then◌else◌, length, IsTrue, IsSome};
 ghost use Rattle.arrayvec.specs.ArrayVec.{array_vec_len};
 ghost use Rattle.virtual_objects.specs.RowParts.{AreRowParts};
 ghost use Rattle.attempts.specs.Reading.{contents_of, first_row};
 ghost use Rattle.raid_base.specs.Replies.{is_done};
 ghost use Rattle.host_read.specs.Stages.{is_kept, is_settled};
-ghost use Rattle.raid_base.specs.Steps.{next_errand, behind, stopped, answer, settled, told};
-ghost use Rattle.raid_base.specs.declared.messages.Errand.{Errand as ErrandView};
+ghost use Rattle.raid_base.specs.Steps.{behind, stopped, answer};
 
 use crate::ahead::{after_parity, after_wanted, end_row, refused, settled, wanted_shares};
 use crate::stages::{Ahead, ReadStage};
@@ -44,11 +43,9 @@ pub struct ReadTry {
 }
 
 impl ReadTry {
-    ghost use Rattle.attempts.specs.Accesses.{access_of};
-    ghost use Rattle.attempts.specs.Reading.{read_steps};
-    ghost use Rattle.attempts.specs.Releases.{read_releases, refused_steps};
     ghost use Rattle.host_read.specs.Answers.{ended_in, contents_in};
-    ghost use Rattle.host_read.specs.Tries.{left};
+    ghost use Rattle.host_read.specs.Aheads.{left_by_refusal};
+    ghost use Rattle.host_read.specs.Tries.{left, steps_of, next_of, GoesOn, HearsAndGoesOn};
     ghost use Rattle.host_read.specs.declared.stages.ReadStage.TheVariants.{Wanted, Parity, Others, Freeing};
 
     /// Begins a read of these parts of a job, on n devices.
@@ -57,7 +54,7 @@ impl ReadTry {
         requires bays { (3 ≤ n) × (n ≤ 16) }
         requires id { (1 ≤ id.0) × (id.0 < 2 ^ 62) }
         requires parts { AreRowParts n parts.items }
-        ensures { left result ≡ read_steps (record { mode = mode; n = n; id = id; parts = parts.items; blocks = [] }) }
+        ensures { left result ≡ steps_of mode n id parts.items }
     {
         let part = parts[0];
         let job = Assignment { mode, n, id, parts };
@@ -77,7 +74,7 @@ impl ReadTry {
         requires bays { (3 ≤ n) × (n ≤ 16) }
         requires id { (1 ≤ id.0) × (id.0 < 2 ^ 62) }
         requires parts { AreRowParts n parts.items }
-        ensures { left self.new ≡ read_steps (record { mode = mode; n = n; id = id; parts = parts.items; blocks = [] }) }
+        ensures { left self.new ≡ steps_of mode n id parts.items }
     {
         let part = parts[0];
         let job = Assignment { mode, n, id, parts };
@@ -90,7 +87,7 @@ impl ReadTry {
 
     /// The next request, and the bay that it goes to. None exactly where the read has ended.
     pub fn next(&self, _blocks: &[[u8; 64]]) -> Option<(BayNo, Request)>
-        ensures value { result ≡ option_map (λ (e : ErrandView). (e.bay, e.request)) (next_errand (left self.now)) }
+        ensures value { result ≡ next_of self.now }
         ensures ended { IsSome result ↔ (answer (left self.now) ≡ None) }
     {
         match self.queue.first() {
@@ -153,7 +150,7 @@ impl ReadTry {
     /// Takes the reply to the next request, and draws the number where it is time to.
     pub fn take(&mut self, _blocks: &[[u8; 64]], reply: &Reply, numbers: &mut Numbers)
         requires { answer (left self.old) ≡ None }
-        ensures told { record { seen = numbers.new.seen; steps = left self.new } ≡ told numbers.old.host (record { seen = numbers.old.seen; steps = left self.old }) reply.now }
+        ensures told { HearsAndGoesOn self.old numbers.old reply.now self.new numbers.new }
         ensures host { numbers.new.host ≡ numbers.old.host }
     {
         numbers.hear(reply);
@@ -172,7 +169,7 @@ impl ReadTry {
     #[inline(never)]
     fn refuse(&mut self, cause: Cause)
         requires { length self.old.taken.before < 8 }
-        ensures { left self.new ≡ refused_steps (read_releases (access_of self.old.job []) (self.old.taken.before ++ self.old.taken.row ∷ [])) cause }
+        ensures { left self.new ≡ left_by_refusal self.old.job self.old.taken cause }
     {
         let Ahead { stage, queue } = refused(&self.job, &self.taken, cause);
         self.stage = stage;
@@ -182,7 +179,7 @@ impl ReadTry {
     /// Takes the reply to the share of a wanted unit.
     fn take_wanted(&mut self, reply: &Reply, numbers: &mut Numbers)
         requires { self.old.stage ≡ Wanted }
-        ensures told { record { seen = numbers.new.seen; steps = left self.new } ≡ settled numbers.old.host numbers.old.seen (behind (left self.old) reply.now) }
+        ensures told { GoesOn self.old numbers.old reply.now self.new numbers.new }
         ensures host { numbers.new.host ≡ numbers.old.host }
     {
         let bay = self.queue.head().bay;
@@ -206,7 +203,7 @@ impl ReadTry {
     /// Takes the reply to the share of the parity.
     fn take_parity(&mut self, reply: &Reply, numbers: &mut Numbers)
         requires { self.old.stage ≡ Parity }
-        ensures told { record { seen = numbers.new.seen; steps = left self.new } ≡ settled numbers.old.host numbers.old.seen (behind (left self.old) reply.now) }
+        ensures told { GoesOn self.old numbers.old reply.now self.new numbers.new }
         ensures host { numbers.new.host ≡ numbers.old.host }
     {
         let bay = self.queue.head().bay;
@@ -226,7 +223,7 @@ impl ReadTry {
     /// Takes the reply to the share of another unit.
     fn take_other(&mut self, reply: &Reply, numbers: &mut Numbers)
         requires { self.old.stage ≡ Others }
-        ensures told { record { seen = numbers.new.seen; steps = left self.new } ≡ settled numbers.old.host numbers.old.seen (behind (left self.old) reply.now) }
+        ensures told { GoesOn self.old numbers.old reply.now self.new numbers.new }
         ensures host { numbers.new.host ≡ numbers.old.host }
     {
         let bay = self.queue.head().bay;
