@@ -1,4 +1,11 @@
 //! The bays that threads share: made, asked through passes, and closed.
+//!
+//! `make` brings the bays in and gives the first pass. `split` gives each host a pass of its own, with its quota. With it
+//! the host asks: `try_ask` once, `ask` until the bay is free. A turn takes the bay out, lets it answer, and gives it back;
+//! other bays go on meanwhile. `join` takes a pass back, and `close` gives the bays once all are back.
+//!
+//! The journal of each bay then has for each host just what that host's pass asked there. The workers of `host_workers`
+//! are who calls this. What may happen between any two steps is the rule in `rule.rt`.
 ghost use Rattle.std.specs.Prelude.{◌≡◌, ◌<◌, ◌≤◌, ◌*◌, ◌^◌, ◌-◌, [], IfOk, IfErr, IsTrue, false, length, vec_len};
 ghost use Rattle.std.specs.Vec.{vec_capacity};
 ghost use Rattle.std.specs.Mem.Slots.{slots_items, slots_len, IsFull};
