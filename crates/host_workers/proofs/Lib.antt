@@ -1,3 +1,5 @@
+mod Backs
+mod Passes
 mod Running
 mod RunLemmas
 mod TestLemmas

@@ -4,8 +4,10 @@
 //! that is a run of the host by the script.
 #![tactic(auto)]
 
+pub mod playing;
 #[cfg(test)]
 mod tests;
 pub mod workers;
 
+pub use playing::play_hosts;
 pub use workers::{Worker, run_hosts};

@@ -1,4 +1,10 @@
 //! Workers: a host with its pass each.
+//!
+//! A worker's turn takes the host's next request, asks the bay through the pass, and hands the answer to the host. A worker
+//! runs until its host has no request any more, and all run side by side, each on a thread where one can be had.
+//!
+//! Nothing but the rack is shared, so what is promised of a worker is promised of it alone: what its pass has asked is what
+//! its host's transcript has, and that is a run of the host by the script. `play_hosts` calls this for a whole script.
 ghost use Rattle.std.specs.Prelude.{◌≡◌, ◌<◌, ◌-◌, ◌^◌, length, min};
 ghost use Rattle.host_workers.specs.Workers.{MayGoOn, MayStart, AreReady, TakesTurn, RunsToItsEnd, RunToTheirEnds};
 
