@@ -2,4 +2,9 @@ pub mod CommandLineLemmas
 pub mod Shortness
 pub mod SerialReportLemmas
 pub mod told
-pub mod RunLemmas
+pub mod CallLemmas
+pub mod merged
+pub mod running
+pub mod BaySlices
+pub mod ThreadLemmas
+pub mod OneReport

@@ -1,7 +1,7 @@
 -- The numbers that the program exits with.
 use Rattle.std.specs.Prelude.{ℕ}
 use Rattle.raid_base.specs.declared.status.Status.{Status}
-use Rattle.raid_base.specs.declared.status.Status.TheVariants.{Done, Words, ReadFault, TooLong, BadScript, NotYet, TooMuch, TooFewStores, TooSmall, StoreFault, WriteFault, Memory}
+use Rattle.raid_base.specs.declared.status.Status.TheVariants.{Done, Words, ReadFault, TooLong, BadScript, TooMuch, TooFewStores, TooSmall, StoreFault, WriteFault, Memory}
 
 -- 0 where the run is done, and from 2 on another for each other end
 abbrev pub exit_number : Status → ℕ
@@ -16,4 +16,3 @@ exit_number (TooSmall _) = 8
 exit_number (StoreFault _) = 9
 exit_number WriteFault = 10
 exit_number Memory = 11
-exit_number NotYet = 12

@@ -4,5 +4,8 @@ pub mod Exits
 pub mod SerialReports
 pub mod Moments
 pub mod Laws
-pub mod Runs
+pub mod Calls
 pub mod Parts
+pub mod Merged
+pub mod ThreadRuns
+pub mod ThreadParts

@@ -1,14 +1,18 @@
 -- What the parts of a call leave: a world that was played, how its report was printed, and the ends before it.
-use Rattle.std.specs.Prelude.{◌≡◌, ℕ, ◌<◌, ◌++◌, true, List, [], length, drop, Result, Ok, Err}
+use Rattle.std.specs.Prelude.{◌≡◌, ℕ, ◌^◌, ◌<◌, ◌≤◌, ◌++◌, true, List, [], Some, length, drop, Result, Ok, Err}
 use Rattle.raid_base.specs.declared.messages.Call.{Call}
 use Rattle.raid_base.specs.declared.status.Status.{Status}
-use Rattle.raid_base.specs.declared.status.Status.TheVariants.{Done, WriteFault, TooFewStores, TooSmall, StoreFault, Memory}
+use Rattle.raid_base.specs.declared.status.Status.TheVariants.{Done, ReadFault, TooLong, BadScript, TooMuch, WriteFault, TooFewStores, TooSmall, StoreFault, Memory}
 use Rattle.raid_base.specs.declared.status.Failed.{Failed}
+use Rattle.raid_base.specs.declared.streams.Source.{Ghosts as SourceGhosts}
 use Rattle.raid_base.specs.declared.streams.Sink.{Ghosts as SinkGhosts}
 use Rattle.raid_base.specs.Counts.{Rises}
 use Rattle.raid_base.specs.Streams.{AppendsPart}
 use Rattle.block_store.specs.declared.store.Store.{Ghosts as StoreGhosts}
 use Rattle.script_text.specs.Script.{Script}
+use Rattle.script_text.specs.Faults.{fault_in}
+use Rattle.script_text.specs.Ranges.{all_jobs}
+use Rattle.script_text.specs.Weights.{total}
 use Rattle.histories.specs.History.{faults_in}
 use Rattle.schedule_play.specs.declared.world.World.{World}
 use Rattle.schedule_play.specs.declared.making.WorldFault.{WorldFault}
@@ -18,8 +22,24 @@ use Rattle.schedule_play.specs.Making.{AreLarge}
 use Rattle.schedule_play.specs.World.{AreOver, Shows, all_requests, AllTell as BaysTell}
 use Rattle.schedule_play.specs.Gathering.{IsClosable, IsGathered}
 use Rattle.histories.specs.Turns.{all_ended, sim}
-use Rattle.array_cli.specs.declared.run.Outcome.{Outcome}
-use Rattle.array_cli.specs.Runs.{AllTell, IsEmpty, HasStopped}
+use Rattle.array_cli.specs.declared.calls.Outcome.{Outcome}
+use Rattle.array_cli.specs.Calls.{AllTell, IsEmpty, IsRead, IsReadWhole, IsTooLong, HasStopped}
+
+-- why no script was read of a source, by the status
+abbrev pub HasNoScript : {S : Type 0} → SourceGhosts S → S → S → Status → Type 0
+HasNoScript s source later ReadFault = Rises (s.faults source) (s.faults later)
+HasNoScript s source later TooLong = s.tells source ≡ true → IsTooLong (s.left source) (s.left later)
+HasNoScript s source later (BadScript line kind) =
+    s.tells source ≡ true → IsReadWhole (s.left source) (s.left later) × (fault_in (s.left source) ≡ Some (line, kind))
+HasNoScript s source later (TooMuch weight) = (script : Script) × IsRead s source later script × (weight ≡ total script) × (2 ^ 20 < total script)
+HasNoScript s source later Memory = Unit {0}
+HasNoScript s source later _ = ⊥
+
+-- a script that was read and is not too heavy
+pub record IsReadFrom {S : Type 0} (s : SourceGhosts S) (source later : S) (script : Script) : Type 0 where
+  pub read : IsRead s source later script
+  pub few : total script ≤ 2 ^ 20
+  pub jobs : length (all_jobs script) < 2 ^ 32
 
 -- how the printing of a text has ended: where it is done, nothing is held back any more
 abbrev pub HasPrinted : {K : Type 0} → SinkGhosts K → List ℕ → K → K → Status → Type 0

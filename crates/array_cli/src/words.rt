@@ -123,6 +123,5 @@ pub fn exit_number(status: Status) -> u8
         Status::StoreFault { .. } => 9,
         Status::WriteFault => 10,
         Status::Memory => 11,
-        Status::NotYet => 12,
     }
 }

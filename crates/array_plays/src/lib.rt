@@ -32,6 +32,12 @@ mod store_faults;
 #[cfg(test)]
 mod texts;
 #[cfg(test)]
+mod thread_gates;
+#[cfg(test)]
+mod thread_plays;
+#[cfg(test)]
+mod thread_runs;
+#[cfg(test)]
 mod unplayed;
 #[cfg(test)]
 mod whole_calls;

@@ -1,10 +1,14 @@
 //! Loads played whole, against summaries that another program has worked out.
 
+use crate::thread_runs::Counting;
 use array_cli::array;
 use block_store::MemoryStore;
+use rack_turns::NoGate;
 use raid_base::{MemorySink, MemorySource, Status};
 use std::alloc::Global;
+use std::sync::Wait;
 use std::test::Fail;
+use std::thread::Threads;
 
 /// A load under locks, a small one under stamps, and a large one.
 const LOADS: [(&str, &str); 3] = [
@@ -56,14 +60,28 @@ fn devices(alloc: Global) -> Result<Vec<MemoryStore>, Fail> {
 }
 
 /// What a load of so many jobs prints that is done, and whether nothing was read.
-fn summary_of(alloc: Global, jobs: &str) -> Result<(String, bool), Fail> {
+fn summary_of<R: Threads + Wait + Sync>(
+    rt: &R,
+    alloc: Global,
+    jobs: &str,
+) -> Result<(String, bool), Fail> {
     let mut words = Vec::new(alloc);
     words.push(String::from_str(alloc, "load")?)?;
     words.push(String::from_str(alloc, jobs)?)?;
     let mut source = MemorySource::make(b"raid 1".to_vec(alloc)?, Vec::new(alloc));
     let mut sink = MemorySink::make(alloc, 1 << 10, Vec::new(alloc))?;
     let stores = devices(alloc)?;
-    let outcome = array(alloc, words.as_slice(), &mut source, &mut sink, stores);
+    let clock = Counting::new();
+    let outcome = array(
+        rt,
+        alloc,
+        words.as_slice(),
+        &mut source,
+        &mut sink,
+        stores,
+        &clock,
+        &NoGate,
+    );
     if outcome.status != Status::Done {
         return Err("not done")?;
     }
@@ -75,7 +93,7 @@ fn summary_of(alloc: Global, jobs: &str) -> Result<(String, bool), Fail> {
 fn a_load_prints_the_same_summary_each_time(rt: HostRuntime) -> Result<(), Fail> {
     for (jobs, summary) in &LOADS {
         for _time in 0..2 {
-            let (printed, is_unread) = summary_of(rt.alloc(), jobs)?;
+            let (printed, is_unread) = summary_of(&rt, rt.alloc(), jobs)?;
             assert!(rt; printed.as_str() == *summary, "{printed}");
             assert!(rt; is_unread);
         }

@@ -1,11 +1,15 @@
 //! The words that are commands, what they do, and the numbers that the program exits with.
 
 use crate::smallest::{REPORT, SCRIPT, part_of_report};
+use crate::thread_runs::Counting;
 use array_cli::{Command, array, exit_number, read_command};
 use block_store::MemoryStore;
+use rack_turns::NoGate;
 use raid_base::{BayNo, Kind, MemorySink, MemorySource, Status};
 use std::alloc::Global;
+use std::sync::Wait;
 use std::test::Fail;
+use std::thread::Threads;
 
 /// Whether these words ask for this command.
 fn asks(alloc: Global, texts: &[&str], command: Option<Command>) -> Result<bool, Fail> {
@@ -86,7 +90,6 @@ fn each_status_has_its_exit_number(rt: HostRuntime) {
         (Status::StoreFault { bay: BayNo(1) }, 9),
         (Status::WriteFault, 10),
         (Status::Memory, 11),
-        (Status::NotYet, 12),
     ];
     for (status, number) in table {
         assert_eq!(rt; exit_number(status), number);
@@ -106,7 +109,7 @@ struct Left {
 }
 
 /// A call with one word on the smallest script over three stores.
-fn call_with(alloc: Global, word: &str) -> Result<Left, Fail> {
+fn call_with<R: Threads + Wait + Sync>(rt: &R, alloc: Global, word: &str) -> Result<Left, Fail> {
     let words = vec![in alloc; String::from_str(alloc, word)?]?;
     let mut source = MemorySource::make(SCRIPT.to_vec(alloc)?, Vec::new(alloc));
     let mut sink = MemorySink::make(alloc, 4_096, Vec::new(alloc))?;
@@ -114,7 +117,17 @@ fn call_with(alloc: Global, word: &str) -> Result<Left, Fail> {
     for _store in 0..3 {
         stores.push(MemoryStore::make(alloc, 1)?)?;
     }
-    let outcome = array(alloc, words.as_slice(), &mut source, &mut sink, stores);
+    let clock = Counting::new();
+    let outcome = array(
+        rt,
+        alloc,
+        words.as_slice(),
+        &mut source,
+        &mut sink,
+        stores,
+        &clock,
+        &NoGate,
+    );
     Ok(Left {
         status: outcome.status,
         stores: outcome.stores.len(),
@@ -126,7 +139,7 @@ fn call_with(alloc: Global, word: &str) -> Result<Left, Fail> {
 
 #[test]
 fn the_word_sim_plays_the_script(rt: HostRuntime) -> Result<(), Fail> {
-    let left = call_with(rt.alloc(), "sim")?;
+    let left = call_with(&rt, rt.alloc(), "sim")?;
     assert_eq!(rt; left.status, Status::Done);
     assert_eq!(rt; left.printed, Some(REPORT.len()));
     assert_eq!(rt; left.unread, 0);
@@ -135,12 +148,10 @@ fn the_word_sim_plays_the_script(rt: HostRuntime) -> Result<(), Fail> {
 
 #[test]
 fn other_words_touch_nothing(rt: HostRuntime) -> Result<(), Fail> {
-    for (word, status) in [("run", Status::NotYet), ("load", Status::Words)] {
-        let left = call_with(rt.alloc(), word)?;
-        assert_eq!(rt; left.status, status);
-        assert!(rt; left.stores == 3 && left.turns == 0);
-        assert_eq!(rt; left.printed, Some(0));
-        assert_eq!(rt; left.unread, SCRIPT.len());
-    }
+    let left = call_with(&rt, rt.alloc(), "load")?;
+    assert_eq!(rt; left.status, Status::Words);
+    assert!(rt; left.stores == 3 && left.turns == 0);
+    assert_eq!(rt; left.printed, Some(0));
+    assert_eq!(rt; left.unread, SCRIPT.len());
     Ok(())
 }

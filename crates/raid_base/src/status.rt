@@ -43,8 +43,6 @@ pub enum Status {
     TooLong,
     #[error("bad script at line {line}: {kind}")]
     BadScript { line: u32, kind: Kind },
-    #[error("not yet")]
-    NotYet,
     #[error("too much: {total}")]
     TooMuch { total: u64 },
     #[error("too few stores: have {have}, need {need}")]

@@ -1,6 +1,6 @@
-use Rattle.std.proofs.Common.{List, ℕ, map, string_bytes, subst}
-use Rattle.array_cli.specs.Commands.{command_of}
-use Rattle.array_cli.specs.Runs.{IsCall, IsLoad, IsNoCall}
+use Rattle.std.proofs.Common.{List, ℕ, subst}
+use Rattle.array_cli.specs.Calls.{IsCall, IsLoad, IsNoCall}
+use Rattle.array_cli.specs.ThreadRuns.{IsRun}
 use Rattle.block_store.specs.contracts.memory.MemoryStoreStore.TheImpl.{ghosts as memory_stores}
 use Rattle.array.proofs.run_over.Goals as goal
 
@@ -8,6 +8,11 @@ pub returns-clause-sim : goal.returns-clause-sim
 returns-clause-sim g c = λ is.
     subst (λ (stores : List (List (List ℕ))). IsCall g.S.Source g.K.Sink memory_stores c.args.source.now c.array.new.source c.args.sink.now c.array.new.sink stores c.array.result)
     c.in_ok-stores.ensures (c.array.ensures.sim is)
+
+pub returns-clause-run : goal.returns-clause-run
+returns-clause-run g c = λ is.
+    subst (λ (stores : List (List (List ℕ))). IsRun g.S.Source g.K.Sink memory_stores c.args.source.now c.array.new.source c.args.sink.now c.array.new.sink stores c.array.result)
+    c.in_ok-stores.ensures (c.array.ensures.run is)
 
 pub returns-clause-load : goal.returns-clause-load
 returns-clause-load g c = λ n is.
@@ -17,4 +22,4 @@ returns-clause-load g c = λ n is.
 pub returns-clause-others : goal.returns-clause-others
 returns-clause-others g c = λ other.
     let none = c.array.ensures.others other in
-    (subst (λ (stores : List (List (List ℕ))). IsNoCall (command_of (map string_bytes c.args.words.now)) stores c.array.result) c.in_ok-stores.ensures none.0, none.1, none.2)
+    (subst (λ (stores : List (List (List ℕ))). IsNoCall stores c.array.result) c.in_ok-stores.ensures none.0, none.1, none.2)

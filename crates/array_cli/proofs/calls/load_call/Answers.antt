@@ -7,22 +7,18 @@ use Rattle.load_maker.specs.Summary.{summary_text}
 use Rattle.load_maker.proofs.LoadScripts.{load-is-script}
 use Rattle.load_maker.proofs.LoadWeights.{load-count, load-weight}
 use Rattle.array_cli.specs.Parts.{HasPrinted}
-use Rattle.array_cli.proofs.RunLemmas.{reported-played, loaded}
-use Rattle.array_cli.proofs.run.load_call.Goals as goal
+use Rattle.array_cli.proofs.CallLemmas.{reported-played, loaded}
+use Rattle.array_cli.proofs.calls.load_call.Goals as goal
 
--- src/run.rt:212:11
 pub played-requires-clause-script : goal.played-requires-clause-script
 played-requires-clause-script g c = subst IsScript (sym c.in-Ok.ensures) (load-is-script c.args.n)
 
--- src/run.rt:212:11
 pub played-requires-clause-few : goal.played-requires-clause-few
 played-requires-clause-few g c = omega (arith, ap total c.in-Ok.ensures, load-weight c.args.n, c.requires.most)
 
--- src/run.rt:212:11
 pub played-requires-clause-jobs : goal.played-requires-clause-jobs
 played-requires-clause-jobs g c = omega (arith, ap (λ (s : Script). length (all_jobs s)) c.in-Ok.ensures, load-count c.args.n, c.requires.most)
 
--- src/run.rt:207:1
 pub returns-in-Ok-played : goal.returns-in-Ok-played
 returns-in-Ok-played g c =
     let world = c.in-Ok-played.world in

@@ -2,7 +2,7 @@
 use Rattle.std.proofs.Common.{◌≡◌, ℕ, zero, suc, ◌+◌, ◌-◌, ◌^◌, ◌<◌, ◌≤◌, ◌++◌, Bool, Option, List, [], ◌∷◌, length, map, drop, get_or, inl, inr, refl, sym, ap, subst, ◌∙◌, arith, IsTrue}
 use Rattle.std.specs.Prelude.{flat_map}
 use Rattle.raid_base.specs.declared.status.Status.{Status}
-use Rattle.raid_base.specs.declared.status.Status.TheVariants.{Done, Words, ReadFault, TooLong, BadScript, TooMuch, TooFewStores, TooSmall, StoreFault, WriteFault, Memory, NotYet}
+use Rattle.raid_base.specs.declared.status.Status.TheVariants.{Done, Words, ReadFault, TooLong, BadScript, TooMuch, TooFewStores, TooSmall, StoreFault, WriteFault, Memory}
 use Rattle.raid_base.specs.declared.jobs.JobResult.{JobResult}
 use Rattle.raid_base.specs.declared.messages.Turn.{Turn}
 use Rattle.raid_base.specs.declared.messages.Call.{Call}
@@ -50,13 +50,13 @@ use Rattle.schedule_play.proofs.CloseLemmas.{closed-journals, closed-stores, clo
 use Rattle.schedule_play.proofs.ReportLemmas.{report-is}
 use Rattle.schedule_play.proofs.ContentLemmas.{contents-whole}
 use Rattle.array_cli.specs.SerialReports.{IsSerialReport}
-use Rattle.array_cli.specs.declared.run.Outcome.{Outcome}
-use Rattle.array_cli.specs.Runs.{handed_out, journal_of, AllTell, HasFailedBy, HasPlayed, HasStopped, HasCalled, HasLoaded, IsLoad, IsCall, IsEmpty, IsIdle, IsOpened, IsPlayed, IsRead, IsReported}
+use Rattle.array_cli.specs.declared.calls.Outcome.{Outcome}
+use Rattle.array_cli.specs.Calls.{handed_out, journal_of, AllTell, HasFailedBy, HasPlayed, HasStopped, HasCalled, HasLoaded, IsLoad, IsCall, IsEmpty, IsIdle, IsOpened, IsPlayed, IsRead, IsReported, IsUnopened}
 use Rattle.array_cli.specs.Moments.{AreTimely}
 use Rattle.array_cli.proofs.SerialReportLemmas.{serial-report}
 use Rattle.array_cli.proofs.told.PlayMoments.{moments_are_bounded}
 use Rattle.array_cli.proofs.told.ToldReports.{reports_have_texts}
-use Rattle.array_cli.specs.Parts.{HasEnded, HasPrinted, IsFinished, IsRefused, IsUnplayed}
+use Rattle.array_cli.specs.Parts.{HasEnded, HasNoScript, HasPrinted, IsFinished, IsReadFrom, IsRefused, IsUnplayed}
 
 pub playable : (script : Script) → IsScript script → IsPlayable script
 playable script is = record { ranges = is }
@@ -73,7 +73,7 @@ rises-more n before mid now r s = grind (arith)
 
 module _ {D : Type 0} {g : Ghosts D} where
   -- some bay of a list
-  a-bay : (bays : List (Bay D g)) → 1 ≤ length bays → Bay D g
+  pub a-bay : (bays : List (Bay D g)) → 1 ≤ length bays → Bay D g
   a-bay [] some = absurd (omega arith)
   a-bay (b ∷ bays) some = b
 
@@ -202,28 +202,60 @@ module _ {D : Type 0} {g : Ghosts D} where
       ∙ report-is script history is (contents-whole script history is)
 
   -- a store has failed in the final reading
+  pub failed-reading : (script : Script) (stores : List D) (history : List Call) (before now : World D g) (bay : BayNo) (outcome : Outcome D) → IsOverStores script stores before →
+      IsOverStores script stores now → Shows script history before → Shows script history now → IsHandedOut now outcome → HasFailed bay.0 before.bays.items now.bays.items → HasFailedBy g 1 bay.0 stores outcome
+  failed-reading script stores history before now bay outcome was over shown shows out failed =
+      let here : bay.0 < length now.bays.items = omega (arith, failed.inside, was.count, over.count) in
+      let same : (d e : Bay D g) → (get_or before.bays.items bay.0 d).journal.items ≡ (get_or now.bays.items bay.0 e).journal.items =
+      (λ d e. (shown.bays bay.0 d failed.inside).entries ∙ sym (shows.bays bay.0 e here).entries) in
+      failed-by 1 script stores now outcome bay.0 over out here
+      (λ d e.
+      subst (λ (js : List Entry). RisesBy (count_faults js + 1) (g.faults (get_or stores bay.0 d)) (g.faults (get_or now.bays.items bay.0 e).store)) (same e e)
+      (rises-more (count_faults (get_or before.bays.items bay.0 e).journal.items) (g.faults (get_or stores bay.0 d)) (g.faults (get_or before.bays.items bay.0 e).store) (g.faults (get_or now.bays.items bay.0 e).store)
+      (was.over bay.0 d e failed.inside).faults (failed.risen e)))
+
   pub unread-stops : Whole g → (script : Script) → IsScript script → total script ≤ 2 ^ 20 → (stores : List D) (history : List Call) (before now : World D g) (bay : BayNo) (outcome : Outcome D) → IsOverStores script stores before →
       IsOverStores script stores now → Shows script history before → Shows script history now → outcome.status ≡ StoreFault bay → IsHandedOut now outcome → outcome.results.items ≡ results script history →
       HasFailed bay.0 before.bays.items now.bays.items → (AllTell g script stores → HasEnded script history now) → IsUnplayed g script stores outcome
   unread-stops whole script valid few stores history before now bay outcome was over shown shows is out read failed ends =
-      let here : bay.0 < length now.bays.items = omega (arith, failed.inside, was.count, over.count) in
-      let below : bay.0 < script.n = omega (arith, here, over.count) in
-      let same : (d e : Bay D g) → (get_or before.bays.items bay.0 d).journal.items ≡ (get_or now.bays.items bay.0 e).journal.items =
-      (λ d e. (shown.bays bay.0 d failed.inside).entries ∙ sym (shows.bays bay.0 e here).entries) in
+      let here : bay.0 < script.n = omega (arith, failed.inside, was.count) in
       subst (HasStopped g script stores outcome) (sym is) (
         opened script stores now outcome over out,
-        below,
+        here,
         inr (record {
-          failed = failed-by 1 script stores now outcome bay.0 over out here
-              (λ d e.
-              subst (λ (js : List Entry). RisesBy (count_faults js + 1) (g.faults (get_or stores bay.0 d)) (g.faults (get_or now.bays.items bay.0 e).store)) (same e e)
-              (rises-more (count_faults (get_or before.bays.items bay.0 e).journal.items) (g.faults (get_or stores bay.0 d)) (g.faults (get_or before.bays.items bay.0 e).store) (g.faults (get_or now.bays.items bay.0 e).store)
-              (was.over bay.0 d e failed.inside).faults (failed.risen e)));
+          failed = failed-reading script stores history before now bay outcome was over shown shows out failed;
           played = λ tells. (history, is-played whole script valid few history now outcome shows (ends tells) read out);
         }),
       )
 
 module _ {D : Type 0} (g : Ghosts D) where
+  no-journal : (outcome : Outcome D) → IsEmpty outcome → (at : ℕ) → count_faults (journal_of outcome at) ≡ 0
+  no-journal outcome empty at = ap (λ (js : List _). count_faults (get_or (map (λ journal. journal.items) js) at [])) empty.journals
+
+  -- a store has failed before the first request
+  pub unopened : (script : Script) (stores : List D) (bay : BayNo) (back : _) (outcome : Outcome D) → IsRefusal g script.n script.rows stores (faults.Fault bay back) → IsRefused script.n (faults.Fault bay back) outcome →
+      IsOpened g script stores outcome × IsUnopened g script bay.0 stores outcome
+  unopened script stores bay back outcome is out =
+      let same : outcome.stores.items ≡ back.items = ap (λ (v : _). v.items) out.1 in
+      let all : AreBack g script.n stores outcome.stores.items = subst (λ (xs : List D). AreBack g script.n stores xs) (sym same) is.1 in
+      let none : (at : ℕ) → count_faults (journal_of outcome at) ≡ 0 = no-journal outcome out.0 in
+      let enough = is.0.enough in (
+        record {
+          large = is.0;
+          stores_back = all;
+          faults = λ at below d.
+              subst (λ (n : ℕ). RisesBy (n + 0) (g.faults (get_or stores at d)) (g.faults (get_or outcome.stores.items at d))) (sym (none at))
+              (all.each at d (omega (arith, below, enough))).faults_least;
+        },
+        record {
+          empty = out.0;
+          failed = λ d.
+              subst (λ (n : ℕ). RisesBy (n + 1) (g.faults (get_or stores bay.0 d)) (g.faults (get_or outcome.stores.items bay.0 d))) (sym (none bay.0))
+              (subst (λ (xs : List D). Rises (g.faults (get_or stores bay.0 d)) (g.faults (get_or xs bay.0 d))) (sym same) (is.3.failed d).rises);
+          halted = subst (λ (xs : List D). IsHalted g script.rows bay.0 stores xs) (sym same) is.3;
+        },
+      )
+
   -- no world was made
   pub refused-stops : (script : Script) (stores : List D) (fault : WorldFault D) (outcome : Outcome D) →
       IsRefusal g script.n script.rows stores fault → IsRefused script.n fault outcome → IsUnplayed g script stores outcome
@@ -238,29 +270,8 @@ module _ {D : Type 0} (g : Ghosts D) where
       let same : outcome.stores.items ≡ back.items = ap (λ (v : _). v.items) out.1 in
       subst (HasStopped g script stores outcome) (sym out.2) (subst (λ (xs : List D). AreBack g script.n stores xs) (sym same) is.1, out.0, ap (λ (xs : List D). drop (script.n - 1) xs) same ∙ is.2)
   refused-stops script stores (faults.Fault bay back) outcome is out =
-      let same : outcome.stores.items ≡ back.items = ap (λ (v : _). v.items) out.1 in
-      let all : AreBack g script.n stores outcome.stores.items = subst (λ (xs : List D). AreBack g script.n stores xs) (sym same) is.1 in
-      let none : (at : ℕ) → count_faults (journal_of outcome at) ≡ 0 = no-journal outcome out.0 in
-      let enough = is.0.enough in
-      subst (HasStopped g script stores outcome) (sym out.2) (
-        record {
-          large = is.0;
-          stores_back = all;
-          faults = λ at below d.
-              subst (λ (n : ℕ). RisesBy (n + 0) (g.faults (get_or stores at d)) (g.faults (get_or outcome.stores.items at d))) (sym (none at))
-              (all.each at d (omega (arith, below, enough))).faults_least;
-        },
-        is.2,
-        inl (record {
-          empty = out.0;
-          failed = λ d.
-              subst (λ (n : ℕ). RisesBy (n + 1) (g.faults (get_or stores bay.0 d)) (g.faults (get_or outcome.stores.items bay.0 d))) (sym (none bay.0))
-              (subst (λ (xs : List D). Rises (g.faults (get_or stores bay.0 d)) (g.faults (get_or xs bay.0 d))) (sym same) (is.3.failed d).rises);
-          halted = subst (λ (xs : List D). IsHalted g script.rows bay.0 stores xs) (sym same) is.3;
-        }),
-      ) where
-        no-journal : (outcome : Outcome D) → IsEmpty outcome → (at : ℕ) → count_faults (journal_of outcome at) ≡ 0
-        no-journal outcome empty at = ap (λ (js : List _). count_faults (get_or (map (λ journal. journal.items) js) at [])) empty.journals
+      let halted = unopened script stores bay back outcome is out in
+      subst (HasStopped g script stores outcome) (sym out.2) (halted.0, is.2, inl halted.1)
 
 module _ {K D : Type 0} (k : SinkGhosts K) (g : Ghosts D) where
   -- an end before the report
@@ -277,7 +288,6 @@ module _ {K D : Type 0} (k : SinkGhosts K) (g : Ghosts D) where
   stopped-played script sink stores outcome print (TooSmall bay) h = (refl, h)
   stopped-played script sink stores outcome print (StoreFault bay) h = (refl, h)
   stopped-played script sink stores outcome print Memory h = (refl, h)
-  stopped-played script sink stores outcome print NotYet h = absurd h
 
   -- the report was printed, or a part of it
   pub reported-played : Whole g → (script : Script) → IsScript script → length (all_jobs script) < 2 ^ 32 → total script ≤ 2 ^ 20 → (sink after : K) (stores : List D) (now : World D g) (outcome : Outcome D) (print : ReportOf → List ℕ) →
@@ -319,7 +329,6 @@ module _ {K D : Type 0} (k : SinkGhosts K) (g : Ghosts D) where
       go (TooSmall bay) p = absurd p
       go (StoreFault bay) p = absurd p
       go Memory p = absurd p
-      go NotYet p = absurd p
 
 module _ {K D : Type 0} (k : SinkGhosts K) (g : Ghosts D) where
   -- the playing of a load
@@ -340,16 +349,28 @@ module _ {K D : Type 0} (k : SinkGhosts K) (g : Ghosts D) where
       go (TooSmall bay) p = p
       go (StoreFault bay) p = p
       go Memory p = inr p
-      go NotYet p = p
 
 module _ {S K D : Type 0} (s : SourceGhosts S) (k : SinkGhosts K) (g : Ghosts D) where
-  -- an end before any play
-  pub early-call : (source later : S) (sink : K) (stores : List D) (outcome : Outcome D) (status : Status) → outcome.status ≡ status → outcome.stores.items ≡ stores → IsEmpty outcome →
-      (IsIdle sink sink stores outcome → HasCalled s k g source later sink sink stores outcome status) → IsCall s k g source later sink sink stores outcome
-  early-call source later sink stores outcome status is same empty called = record {
-    called = subst (HasCalled s k g source later sink sink stores outcome) (sym is)
-        (called (record { silent = refl; untouched = record { stores_back = same; empty = empty } }));
-  }
+  -- no script was read
+  pub no-script-call : (source later : S) (sink : K) (stores : List D) (outcome : Outcome D) (status : Status) → outcome.status ≡ status → outcome.stores.items ≡ stores → IsEmpty outcome →
+      HasNoScript s source later status → IsCall s k g source later sink sink stores outcome
+  no-script-call source later sink stores outcome status is same empty none = record { called = subst (HasCalled s k g source later sink sink stores outcome) (sym is) (go status none) }
+    where
+      idle : IsIdle sink sink stores outcome
+      idle = record { silent = refl; untouched = record { stores_back = same; empty = empty } }
+
+      go : (status : Status) → HasNoScript s source later status → HasCalled s k g source later sink sink stores outcome status
+      go Done n = absurd n
+      go WriteFault n = absurd n
+      go Words n = absurd n
+      go ReadFault n = (idle, n)
+      go TooLong n = (idle, n)
+      go (BadScript line kind) n = (idle, n)
+      go (TooMuch weight) n = (idle, n.0, n.1, n.2, n.3)
+      go (TooFewStores have need) n = absurd n
+      go (TooSmall bay) n = absurd n
+      go (StoreFault bay) n = absurd n
+      go Memory n = inl idle
 
   -- the playing of the script that was read
   pub played-call : (script : Script) (source later : S) (sink after : K) (stores : List D) (outcome : Outcome D) → IsRead s source later script → total script ≤ 2 ^ 20 →
@@ -368,4 +389,3 @@ module _ {S K D : Type 0} (s : SourceGhosts S) (k : SinkGhosts K) (g : Ghosts D)
       go (TooSmall bay) p = (script, read, few, p)
       go (StoreFault bay) p = (script, read, few, p)
       go Memory p = inr (script, read, p)
-      go NotYet p = (script, read, few, p)

@@ -1,29 +1,25 @@
 use Rattle.std.proofs.Common.{[], ℕ, ap, subst, ◌∙◌, arith}
-use Rattle.array_cli.proofs.RunLemmas.{ready, blank-on, closable-on, over-start, over-on, refused-stops, unread-stops}
+use Rattle.array_cli.proofs.CallLemmas.{ready, blank-on, closable-on, over-start, over-on, refused-stops, unread-stops}
 use Rattle.script_text.specs.Script.{Script}
 use Rattle.schedule_play.specs.World.{all_requests}
 use Rattle.array_cli.specs.Parts.{IsRefused}
-use Rattle.array_cli.proofs.run.played.Goals as goal
+use Rattle.array_cli.proofs.calls.played.Goals as goal
 
--- src/run.rt:124:23
 pub returns-in-Err-clause-refused : goal.returns-in-Err-clause-refused
 returns-in-Err-clause-refused g c =
     refused-stops g.D.Store c.args.script.now c.args.stores.items c.in-Err.fault c.refused.result c.in-Err.ensures.refused
     (subst (λ (n : ℕ). IsRefused n c.in-Err.fault c.refused.result) (ap (λ (s : Script). s.n) c.script.view_is) c.refused.ensures)
 
--- src/run.rt:127:11
 pub finish-requires-clause-ready : goal.finish-requires-clause-ready
 finish-requires-clause-ready g c =
     let p = c.play.ensures.played c.args.script.now [] c.in-Ok.ensures.shows in
     ready c.args.script.now c.requires.script c.requires.few p.history c.play.new.self p.shows
 
--- src/run.rt:127:11
 pub finish-requires-clause-blank : goal.finish-requires-clause-blank
 finish-requires-clause-blank g c =
     let p = c.play.ensures.played c.args.script.now [] c.in-Ok.ensures.shows in
     blank-on c.args.script.now p.history c.in-Ok.world c.play.new.self c.in-Ok.ensures.blank c.play.ensures.keeps p.shows
 
--- src/run.rt:129:25
 pub closed-requires : goal.closed-requires
 closed-requires g c =
     let p = c.play.ensures.played c.args.script.now [] c.in-Ok.ensures.shows in
@@ -31,7 +27,6 @@ closed-requires g c =
     closable-on c.args.script.now [] p.history c.in-Ok.world c.finish.new.self c.in-Ok.ensures.closable c.in-Ok.ensures.shows (c.finish.ensures.shows c.args.script.now p.history p.shows)
     (c.finish.ensures.others ∙ k.others) (c.finish.ensures.journals ∙ ap (λ (x : _). x.journals) k.gathered)
 
--- src/run.rt:111:1
 pub returns-in-Ok-finish-clause-finished : goal.returns-in-Ok-finish-clause-finished
 returns-in-Ok-finish-clause-finished g c =
     let script = c.args.script.now in
@@ -57,7 +52,6 @@ returns-in-Ok-finish-clause-finished g c =
           );
     }
 
--- src/run.rt:111:1
 pub returns-in-Err-finish-clause-refused : goal.returns-in-Err-finish-clause-refused
 returns-in-Err-finish-clause-refused g c =
     let script = c.args.script.now in

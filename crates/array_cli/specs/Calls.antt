@@ -3,7 +3,7 @@ use Rattle.std.specs.Prelude.{◌≡◌, ◌⊎◌, ℕ, ◌+◌, ◌-◌, ◌^�
 use Rattle.raid_base.specs.declared.messages.Call.{Call}
 use Rattle.raid_base.specs.declared.messages.Entry.{Entry}
 use Rattle.raid_base.specs.declared.status.Status.{Status}
-use Rattle.raid_base.specs.declared.status.Status.TheVariants.{Done, Words, ReadFault, TooLong, BadScript, TooMuch, TooFewStores, TooSmall, StoreFault, WriteFault, Memory, NotYet}
+use Rattle.raid_base.specs.declared.status.Status.TheVariants.{Done, Words, ReadFault, TooLong, BadScript, TooMuch, TooFewStores, TooSmall, StoreFault, WriteFault, Memory}
 use Rattle.raid_base.specs.declared.streams.Source.{Ghosts as SourceGhosts}
 use Rattle.raid_base.specs.declared.streams.Sink.{Ghosts as SinkGhosts}
 use Rattle.raid_base.specs.Counts.{Rises, RisesBy}
@@ -27,7 +27,7 @@ use Rattle.attempt_laws.specs.Lone.{LoneJobsAreDone}
 use Rattle.serial_laws.specs.Headline.{Outcome as PlayOutcome, Headline}
 use Rattle.schedule_play.specs.Reported.{report_of}
 use Rattle.array_cli.specs.SerialReports.{IsSerialReport}
-use Rattle.array_cli.specs.declared.run.Outcome.{Outcome}
+use Rattle.array_cli.specs.declared.calls.Outcome.{Outcome}
 use Rattle.array_cli.specs.declared.words.Command.{Command}
 use Rattle.array_cli.specs.declared.words.Command.TheVariants.{Sim, Run, Load}
 
@@ -175,20 +175,15 @@ HasLoaded k g n sink after stores outcome status = HasPlayed k g (summary_text n
 pub record IsLoad {K D : Type 0} (k : SinkGhosts K) (g : StoreGhosts D) (n : ℕ) (sink after : K) (stores : List D) (outcome : Outcome D) : Type 0 where
   pub loaded : HasLoaded k g n sink after stores outcome outcome.status
 
--- words that ask for no call: there is no such command, or it is not done yet
+-- words that ask for no call: there is no such command
 abbrev pub IsNoCallFor : Option Command → Type 0
 IsNoCallFor None = Unit {0}
 IsNoCallFor (Some Sim) = ⊥
-IsNoCallFor (Some Run) = Unit {0}
+IsNoCallFor (Some Run) = ⊥
 IsNoCallFor (Some (Load n)) = ⊥
 
--- and the status of these words
-abbrev pub status_without_call : Option Command → Status
-status_without_call None = Words
-status_without_call (Some command) = NotYet
-
 -- No call is made: the stores are as they were, and nothing was played
-pub record IsNoCall {D : Type 0} (command : Option Command) (stores : List D) (outcome : Outcome D) : Type 0 where
-  pub status : (outcome.status ≡ status_without_call command) ⊎ (outcome.status ≡ Memory)
+pub record IsNoCall {D : Type 0} (stores : List D) (outcome : Outcome D) : Type 0 where
+  pub status : (outcome.status ≡ Words) ⊎ (outcome.status ≡ Memory)
   pub stores_back : outcome.stores.items ≡ stores
   pub empty : IsEmpty outcome

@@ -3,10 +3,9 @@ use Rattle.script_text.specs.Script.{Script}
 use Rattle.report_text.specs.Report.{report_text}
 use Rattle.report_text.specs.Views.{report_in}
 use Rattle.array_cli.specs.Parts.{HasPrinted}
-use Rattle.array_cli.proofs.RunLemmas.{reported-played}
-use Rattle.array_cli.proofs.run.play.Goals as goal
+use Rattle.array_cli.proofs.CallLemmas.{reported-played}
+use Rattle.array_cli.proofs.calls.play.Goals as goal
 
--- src/run.rt:134:1
 pub returns-in-Ok : goal.returns-in-Ok
 returns-in-Ok g c =
     let world = c.in-Ok.world in

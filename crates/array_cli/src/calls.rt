@@ -1,4 +1,11 @@
-//! A run of a script from its text to its report.
+//! The program's calls: `array` reads the words, and each command has a call of its own.
+//!
+//! `sim_call` reads a script to the source's end, makes a world over the stores, plays it, reads what it has come to, and
+//! prints the report. `load_call` does so for a script that is made from a number, and prints its summary. `run_call`
+//! (`thread_runs.rt`) plays the hosts beside each other. Whatever happens all stores come back, and the status says why it
+//! has ended. Memory is taken before the first request, and never after it.
+//!
+//! What holds at each status is `IsCall`, `IsLoad` and `IsRun`. The program's `main` calls `array`.
 ghost use Rattle.std.specs.Prelude.{◌≡◌, ℕ, List, ◌++◌, ◌<◌, ◌≤◌, ◌^◌, Some, map, length, string_bytes, IfOk, IfErr};
 ghost use Rattle.script_text.specs.Ranges.{IsScript, all_jobs};
 ghost use Rattle.script_text.specs.Weights.{total};
@@ -9,19 +16,24 @@ ghost use Rattle.load_maker.specs.Summary.{summary_text};
 ghost use Rattle.schedule_play.specs.Gathering.{IsClosable};
 ghost use Rattle.schedule_play.specs.Making.{stores_of};
 ghost use Rattle.array_cli.specs.Commands.{command_of};
-ghost use Rattle.array_cli.specs.Runs.{HasPlayed, IsCall, IsEmpty, IsLoad, IsNoCall, IsNoCallFor};
-ghost use Rattle.array_cli.specs.Parts.{HasPrinted, IsFinished, IsRefused, IsUnplayed, status_of};
-ghost use Rattle.array_cli.specs.declared.words.Command.TheVariants.{Sim, Load};
+ghost use Rattle.array_cli.specs.Calls.{HasPlayed, IsCall, IsEmpty, IsLoad, IsNoCall, IsNoCallFor};
+ghost use Rattle.array_cli.specs.Parts.{HasNoScript, HasPrinted, IsFinished, IsReadFrom, IsRefused, IsUnplayed, status_of};
+ghost use Rattle.array_cli.specs.ThreadRuns.{IsRun};
+ghost use Rattle.array_cli.specs.declared.words.Command.TheVariants.{Sim, Run, Load};
 
 use crate::input::{InputFault, read_all};
+use crate::thread_runs::run_call;
 use crate::words::{Command, read_command};
 use block_store::Store;
 use load_maker::{make_load, write_summary};
+use rack_turns::{Clock, Gate};
 use raid_base::{Entry, Failed, JobResult, NoMemory, Sink, Source, Status, Turn};
 use report_text::write_report;
 use schedule_play::{World, WorldFault};
 use script_text::{Script, ScriptFault, read_script, total};
 use std::alloc::Global;
+use std::sync::Wait;
+use std::thread::Threads;
 
 /// How many bytes a script may have.
 const MOST_BYTES: usize = 1 << 24;
@@ -43,7 +55,7 @@ pub struct Outcome<D> {
 
 impl<D> Outcome<D> {
     /// An end before the report: with the stores alone.
-    fn early(alloc: Global, status: Status, stores: Vec<D>) -> Outcome<D>
+    pub(crate) fn early(alloc: Global, status: Status, stores: Vec<D>) -> Outcome<D>
         ensures status { result.status ≡ status }
         ensures stores { result.stores ≡ stores }
         ensures empty { IsEmpty result }
@@ -59,7 +71,7 @@ impl<D> Outcome<D> {
 }
 
 /// The end where no world was made for so many devices.
-fn refused<D: Store>(alloc: Global, devices: u8, fault: WorldFault<D>) -> Outcome<D>
+pub(crate) fn refused<D: Store>(alloc: Global, devices: u8, fault: WorldFault<D>) -> Outcome<D>
     ensures { IsRefused devices fault result }
 {
     match fault {
@@ -77,7 +89,7 @@ fn refused<D: Store>(alloc: Global, devices: u8, fault: WorldFault<D>) -> Outcom
 }
 
 /// The end with all that a world has come to.
-fn closed<D: Store>(status: Status, world: World<'_, D>) -> Outcome<D>
+pub(crate) fn closed<D: Store>(status: Status, world: World<'_, D>) -> Outcome<D>
     requires { IsClosable world }
     ensures status { result.status ≡ status }
     ensures stores { result.stores.items ≡ stores_of world.entry.bays.items ++ world.entry.others.items }
@@ -114,7 +126,7 @@ fn status_of(printed: Result<(), Failed>) -> Status
 }
 
 /// Prints the report of a world that was read, and closes it.
-fn reported<K: Sink, D: Store>(sink: &mut K, world: World<'_, D>) -> Outcome<D>
+pub(crate) fn reported<K: Sink, D: Store>(sink: &mut K, world: World<'_, D>) -> Outcome<D>
     requires { IsClosable world }
     ensures printed { let report = report_in world.entry.script.now world.entry.gathered.results.items world.entry.gathered.contents.items world.entry.turns.items world.entry.gathered.cells.items world.entry.gathered.opened.items in HasPrinted K.Sink (report_text report) sink.old sink.new result.status }
     ensures stores { result.stores.items ≡ stores_of world.entry.bays.items ++ world.entry.others.items }
@@ -168,6 +180,29 @@ fn play<K: Sink, D: Store>(
     }
 }
 
+/// The script that a source holds, where it is not too heavy, or else the status that says why there is none.
+pub(crate) fn read_input<S: Source>(alloc: Global, source: &mut S) -> Result<Script, Status>
+    ensures read { IfOk result (IsReadFrom S.Source source.old source.new) }
+    ensures refused { IfErr result (HasNoScript S.Source source.old source.new) }
+{
+    let bytes = match read_all(alloc, source, MOST_BYTES) {
+        Ok(bytes) => bytes,
+        Err(InputFault::Read) => return Err(Status::ReadFault),
+        Err(InputFault::TooLong) => return Err(Status::TooLong),
+        Err(InputFault::NoMemory) => return Err(Status::Memory),
+    };
+    let script = match read_script(alloc, bytes.as_slice()) {
+        Ok(script) => script,
+        Err(ScriptFault::Bad { line, kind }) => return Err(Status::BadScript { line, kind }),
+        Err(ScriptFault::NoMemory) => return Err(Status::Memory),
+    };
+    let weight = total(&script);
+    if weight > MOST_WEIGHT {
+        return Err(Status::TooMuch { total: weight });
+    }
+    Ok(script)
+}
+
 /// Plays the script that the source holds over some stores, and prints its report.
 pub fn sim_call<S: Source, K: Sink, D: Store>(
     alloc: Global,
@@ -177,24 +212,10 @@ pub fn sim_call<S: Source, K: Sink, D: Store>(
 ) -> Outcome<D>
     ensures { IsCall S.Source K.Sink D.Store source.old source.new sink.old sink.new stores.items result }
 {
-    let bytes = match read_all(alloc, source, MOST_BYTES) {
-        Ok(bytes) => bytes,
-        Err(InputFault::Read) => return Outcome::early(alloc, Status::ReadFault, stores),
-        Err(InputFault::TooLong) => return Outcome::early(alloc, Status::TooLong, stores),
-        Err(InputFault::NoMemory) => return Outcome::early(alloc, Status::Memory, stores),
-    };
-    let script = match read_script(alloc, bytes.as_slice()) {
-        Ok(script) => script,
-        Err(ScriptFault::Bad { line, kind }) => {
-            return Outcome::early(alloc, Status::BadScript { line, kind }, stores);
-        }
-        Err(ScriptFault::NoMemory) => return Outcome::early(alloc, Status::Memory, stores),
-    };
-    let weight = total(&script);
-    if weight > MOST_WEIGHT {
-        return Outcome::early(alloc, Status::TooMuch { total: weight }, stores);
+    match read_input(alloc, source) {
+        Ok(script) => play(alloc, &script, sink, stores),
+        Err(status) => Outcome::early(alloc, status, stores),
     }
-    play(alloc, &script, sink, stores)
 }
 
 /// Prints the summary of a world in which a load of n jobs was played, and closes it.
@@ -232,23 +253,35 @@ pub fn load_call<K: Sink, D: Store>(
     }
 }
 
-/// Does what the words behind the program's name ask for. With `run`, which is not done yet, and with words that are no
-/// command nothing is touched.
-pub fn array<S: Source, K: Sink, D: Store>(
+/// Does what the words behind the program's name ask for. With words that are no command nothing is touched.
+///
+/// The runtime, the clock and the gate are for `run`: threads, moments, and who waits where.
+pub fn array<S, K, D, C, G, R>(
+    rt: &R,
     alloc: Global,
     words: &[String],
     source: &mut S,
     sink: &mut K,
     stores: Vec<D>,
+    clock: &C,
+    gate: &G,
 ) -> Outcome<D>
+where
+    S: Source,
+    K: Sink,
+    D: Store + Send,
+    C: Clock + Sync,
+    G: Gate + Sync,
+    R: Threads + Wait + Sync,
     ensures sim { command_of (map string_bytes words.now) ≡ Some Sim → IsCall S.Source K.Sink D.Store source.old source.new sink.old sink.new stores.items result }
+    ensures run { command_of (map string_bytes words.now) ≡ Some Run → IsRun S.Source K.Sink D.Store source.old source.new sink.old sink.new stores.items result }
     ensures load { (n : ℕ) → command_of (map string_bytes words.now) ≡ Some (Load n) → IsLoad K.Sink D.Store n sink.old sink.new stores.items result × (source.new ≡ source.old) }
-    ensures others { IsNoCallFor (command_of (map string_bytes words.now)) → IsNoCall (command_of (map string_bytes words.now)) stores.items result × (source.new ≡ source.old) × (sink.new ≡ sink.old) }
+    ensures others { IsNoCallFor (command_of (map string_bytes words.now)) → IsNoCall stores.items result × (source.new ≡ source.old) × (sink.new ≡ sink.old) }
 {
     match read_command(alloc, words) {
         Ok(Some(Command::Sim)) => sim_call(alloc, source, sink, stores),
+        Ok(Some(Command::Run)) => run_call(rt, alloc, source, sink, stores, clock, gate),
         Ok(Some(Command::Load { jobs })) => load_call(alloc, jobs, sink, stores),
-        Ok(Some(Command::Run)) => Outcome::early(alloc, Status::NotYet, stores),
         Ok(None) => Outcome::early(alloc, Status::Words, stores),
         Err(NoMemory) => Outcome::early(alloc, Status::Memory, stores),
     }
