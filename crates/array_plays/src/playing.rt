@@ -1,12 +1,16 @@
-//! Calls on scripts over sixteen stores, and plays whose whole report is looked for.
+//! Calls on scripts over sixteen stores, and plays whose whole report is looked for. Each such script is run on threads too.
 
-use crate::texts::{STAMPS, Spell, push_state, report_of, script_of};
+use crate::texts::{STAMPS, Spell, lines_of, push_state, report_of, script_of};
+use crate::thread_runs::check_lines;
 use array_cli::{Outcome, sim_call};
 use block_store::{FailingStore, Store};
+use rack_turns::NoGate;
 use raid_base::{MemorySink, MemorySource, Status};
 use std::alloc::Global;
 use std::process::Abort;
+use std::sync::Wait;
 use std::test::Fail;
+use std::thread::Threads;
 
 /// A script, and the report that is to come of it.
 ///
@@ -55,7 +59,7 @@ fn make_store(
 }
 
 /// Sixteen stores, the first with so many blocks and each next one with one more.
-fn make_stores(
+pub fn make_stores(
     alloc: Global,
     blocks: u32,
     failing: &[(u32, u32)],
@@ -68,7 +72,7 @@ fn make_stores(
 }
 
 /// Whether all those stores have come back, in order.
-fn are_back(stores: &[FailingStore], blocks: u32) -> bool {
+pub fn are_back(stores: &[FailingStore], blocks: u32) -> bool {
     for (place, store) in stores.iter().enumerate() {
         if u64::from(store.blocks()) != u64::from(blocks).saturating_add(place as u64) {
             return false;
@@ -147,16 +151,29 @@ fn report_of_play(alloc: Global, play: &Play) -> Result<String, Fail> {
     Ok(report)
 }
 
-/// Plays a play, and looks for its report.
-fn check_play(rt: &impl Abort, alloc: Global, play: &Play) -> Result<(), Fail> {
+/// Plays a play, and looks for its report. Then runs its script without its turns, over stores that fail at the same calls.
+fn check_play<R: Threads + Wait + Sync + Abort>(
+    rt: &R,
+    alloc: Global,
+    play: &Play,
+) -> Result<(), Fail> {
     let script = script_of(alloc, play.head, play.hosts, play.turns)?;
     let report = report_of_play(alloc, play)?;
     let rows = play.rows.len();
-    check_text(rt, alloc, &script, rows, play.failing, &report)
+    check_text(rt, alloc, &script, rows, play.failing, &report)?;
+    let lines = lines_of(alloc, play.head, play.hosts)?;
+    let blocks = u32::try_from(rows)?;
+    let status = check_lines(rt, alloc, lines.as_str(), blocks, play.failing, &NoGate)?;
+    assert_eq!(rt; status, Status::Done);
+    Ok(())
 }
 
-/// Plays these plays, and looks for the report of each.
-pub fn check(rt: &impl Abort, alloc: Global, plays: &[Play]) -> Result<(), Fail> {
+/// Plays these plays and looks for the report of each, and runs each once beside the simulator.
+pub fn check<R: Threads + Wait + Sync + Abort>(
+    rt: &R,
+    alloc: Global,
+    plays: &[Play],
+) -> Result<(), Fail> {
     for play in plays {
         check_play(rt, alloc, play)?;
     }

@@ -55,15 +55,21 @@ pub fn push_turns(text: &mut String, spells: &[Spell]) -> Result<(), Fail> {
     Ok(())
 }
 
+/// The lines of a script up to its turns.
+pub fn lines_of(alloc: Global, head: &[&str], hosts: &[&str]) -> Result<String, Fail> {
+    let mut text = String::new(alloc);
+    push_lines(&mut text, head)?;
+    push_lines(&mut text, hosts)?;
+    Ok(text)
+}
+
 pub fn script_of(
     alloc: Global,
     head: &[&str],
     hosts: &[&str],
     turns: &[Spell],
 ) -> Result<String, Fail> {
-    let mut text = String::new(alloc);
-    push_lines(&mut text, head)?;
-    push_lines(&mut text, hosts)?;
+    let mut text = lines_of(alloc, head, hosts)?;
     push_turns(&mut text, turns)?;
     push_lines(&mut text, &["end"])?;
     Ok(text)

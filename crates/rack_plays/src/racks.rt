@@ -184,10 +184,7 @@ fn all_ask<R: Threads + Wait + Sync, D: Store + Send>(rt: &R, rack: &Rack<D>, pa
 
 /// How many of the entries are a host's.
 fn count_of(entries: &[Entry], host: HostNo) -> usize {
-    entries
-        .iter()
-        .filter(|entry| entry.host() == host)
-        .count()
+    entries.iter().filter(|entry| entry.host() == host).count()
 }
 
 /// Whether the clocks are 1, 2, 3 and so on.
